@@ -1,0 +1,4 @@
+pub mod Lines
+pub mod Loops
+pub mod Table
+pub mod Widths

@@ -1,0 +1,5 @@
+use Rattle.frames.proofs.Lines.{Reading}
+use Rattle.frames.proofs.text.read_text.Given as given
+
+abbrev pub Inv-loop-i : given.InvT-loop-i
+Inv-loop-i l = Reading (l .line) (l .i) (l .octets)
