@@ -3,6 +3,9 @@ use Prim.Native.Nat.{ℕ, _+_, _*_, _/_, _%_, _^_, _<_, _≤_}
 use mathlib.Core.List.{List, [], _∷_}
 use Rattle.frames.specs.declared.bits.Field.{Field}
 
+abbrev pub field : ℕ → ℕ → Field
+field w v = record { width = w; value = v }
+
 abbrev pub sum : List ℕ → ℕ
 sum [] = 0
 sum (w ∷ ws) = w + sum ws
@@ -36,3 +39,8 @@ joined fs = joined-onto 0 fs
 abbrev pub parts : List ℕ → ℕ → List ℕ
 parts [] n = []
 parts (w ∷ ws) n = n / 2 ^ sum ws ∷ parts ws (n % 2 ^ sum ws)
+
+-- bytes as fields of eight bits
+abbrev pub octets : List ℕ → List Field
+octets [] = []
+octets (b ∷ bs) = field 8 b ∷ octets bs

@@ -2,12 +2,24 @@
 ghost use mathlib.Core.Path.{_≡_};
 ghost use Prim.Native.Nat.{_^_, _<_, _≤_};
 ghost use lib.ListN.{length};
-ghost use Rattle.frames.specs.Bits.{Fit, Narrow, total, joined, sum, parts};
+ghost use Rattle.frames.specs.Bits.{field, Fit, Narrow, total, joined, sum, parts};
 
 #[derive(Clone, Copy)]
 pub struct Field {
     pub width: u32,
     pub value: u16,
+}
+
+impl Field {
+    // The eight bits of a byte.
+    pub(crate) fn octet(byte: u8) -> Field
+        ensures { λ r. ⌜ r ≡ field 8 byte ⌝ }
+    {
+        Field {
+            width: 8,
+            value: u16::from(byte),
+        }
+    }
 }
 
 // The number whose bits are those of the fields.

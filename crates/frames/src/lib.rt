@@ -1,11 +1,14 @@
 // Frames of the call-hold service.
 mod bits;
+mod codes;
 mod content;
-mod numbers;
-mod octets;
-mod text;
 mod fault;
 mod hex;
+mod layout;
+mod numbers;
+mod octets;
+mod read;
+mod text;
 
 pub use fault::Fault;
 pub use fault::FaultDebug;
