@@ -44,3 +44,7 @@ parts (w ∷ ws) n = n / 2 ^ sum ws ∷ parts ws (n % 2 ^ sum ws)
 abbrev pub octets : List ℕ → List Field
 octets [] = []
 octets (b ∷ bs) = field 8 b ∷ octets bs
+
+-- the two bytes that 16 bits make
+abbrev pub two-octets : List Field → List ℕ
+two-octets fs = parts (8 ∷ 8 ∷ []) (joined fs)

@@ -6,3 +6,4 @@ pub mod Layout
 pub mod Octets
 pub mod Read
 pub mod Text
+pub mod Write

@@ -11,6 +11,12 @@ pub struct Field {
 }
 
 impl Field {
+    pub(crate) fn new(width: u32, value: u16) -> Field
+        ensures { λ r. ⌜ r ≡ field width value ⌝ }
+    {
+        Field { width, value }
+    }
+
     // The eight bits of a byte.
     pub(crate) fn octet(byte: u8) -> Field
         ensures { λ r. ⌜ r ≡ field 8 byte ⌝ }

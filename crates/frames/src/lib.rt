@@ -9,6 +9,7 @@ mod numbers;
 mod octets;
 mod read;
 mod text;
+mod write;
 
 pub use fault::Fault;
 pub use fault::FaultDebug;

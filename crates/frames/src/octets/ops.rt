@@ -1,7 +1,7 @@
 // Filling octets, and reading them as a slice.
 ghost use mathlib.Core.Path.{_≡_};
 ghost use mathlib.Core.List.{[], _∷_, _++_};
-ghost use Prim.Native.Nat.{_+_, _<_};
+ghost use Prim.Native.Nat.{_+_, _<_, _≤_};
 ghost use Rattle.frames.specs.Octets.{held};
 use super::Octets;
 
@@ -32,5 +32,15 @@ impl Octets {
         let at = self.len;
         self.bytes[at] = byte;
         self.len = at + 1;
+    }
+
+    // All bytes of another, where there is room.
+    pub(crate) fn append(&mut self, more: &Octets)
+        requires { ⌜ now self .len + now more .len ≤ 32 ⌝ }
+        ensures { λ _. ⌜ held (now (self .exit)) ≡ held (now (self .entry)) ++ held (now (more .entry)) ⌝ }
+    {
+        for i in 0..more.len {
+            self.push(more.bytes[i]);
+        }
     }
 }
