@@ -39,8 +39,11 @@ kind-number clear-request = 3
 kind-number clear-answer = 4
 kind-number notice = 5
 
+abbrev pub kinds : List Kind
+kinds = request ∷ answer ∷ clear-request ∷ clear-answer ∷ notice ∷ []
+
 abbrev pub kind-of : ℕ → Option Kind
-kind-of = bearing (λ k. Some (kind-number k)) (request ∷ answer ∷ clear-request ∷ clear-answer ∷ notice ∷ [])
+kind-of = bearing (λ k. Some (kind-number k)) kinds
 
 abbrev pub ss-type : ℕ
 ss-type = 12
@@ -79,13 +82,19 @@ cause-number Retrieve AlreadyOnHold = None
 cause-number Retrieve NotOnHold = Some 2
 cause-number Retrieve NoChannel = Some 3
 
+abbrev pub causes : List Cause
+causes = NotSubscribed ∷ LimitReached ∷ CallNotThere ∷ AlreadyOnHold ∷ NotOnHold ∷ NoChannel ∷ []
+
 abbrev pub cause-of : Operation → ℕ → Option Cause
-cause-of o = bearing (cause-number o) (NotSubscribed ∷ LimitReached ∷ CallNotThere ∷ AlreadyOnHold ∷ NotOnHold ∷ NoChannel ∷ [])
+cause-of o = bearing (cause-number o) causes
 
 abbrev pub news-number : News → ℕ
 news-number PutOnHold = 1
 news-number Retrieved = 2
 news-number Released = 3
 
+abbrev pub all-news : List News
+all-news = PutOnHold ∷ Retrieved ∷ Released ∷ []
+
 abbrev pub news-of : ℕ → Option News
-news-of = bearing (λ w. Some (news-number w)) (PutOnHold ∷ Retrieved ∷ Released ∷ [])
+news-of = bearing (λ w. Some (news-number w)) all-news

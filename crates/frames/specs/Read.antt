@@ -19,7 +19,7 @@ use Rattle.frames.specs.declared.content.Operation.{Operation}
 use Rattle.frames.specs.declared.content.Verdict.{Verdict}
 use Rattle.frames.specs.declared.content.Verdict.the-variants.{Granted, Declined}
 use Rattle.frames.specs.declared.fault.Fault.{Fault}
-use Rattle.frames.specs.declared.read.Header.{Header}
+use Rattle.frames.specs.declared.reader.Header.{Header}
 use Rattle.frames.specs.Bits.{joined, octets, parts}
 use Rattle.frames.specs.Codes.{kind-of, ss-type, request-of, answer-of, cause-of, news-of}
 use Rattle.frames.specs.Fault.{in-frame, unless}

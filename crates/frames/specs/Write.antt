@@ -14,7 +14,7 @@ use Rattle.frames.specs.declared.content.Frame.{Frame}
 use Rattle.frames.specs.declared.content.Operation.{Operation}
 use Rattle.frames.specs.declared.content.Verdict.the-variants.{Granted, Declined}
 use Rattle.frames.specs.declared.fault.Fault.{Fault}
-use Rattle.frames.specs.declared.write.Pdu.{Pdu}
+use Rattle.frames.specs.declared.writer.Pdu.{Pdu}
 use Rattle.frames.specs.Bits.{field, total, joined, parts}
 use Rattle.frames.specs.Codes.{kind, kind-number, ss-type, request-type, answer-type, cause-number, news-number}
 use Rattle.frames.specs.Fault.{in-frame, unless}

@@ -1,4 +1,6 @@
-// Frames of the call-hold service.
+// Frames of the call-hold service: their content, their bytes and their text.
+// To the crates above it promises that reading and writing equal their definitions, that what is written reads back, and that
+// no two frames have one content nor two contents one frame. Every refusal is a `Fault`, handed up unchanged. It uses `std` alone.
 mod bits;
 mod codes;
 mod content;
@@ -7,10 +9,40 @@ mod hex;
 mod layout;
 mod numbers;
 mod octets;
-mod read;
+mod reader;
 mod text;
-mod write;
+mod writer;
 
+pub use codes::cause_number;
+pub use codes::news_number;
+pub use content::Body;
+pub use content::BodyDebug;
+pub use content::BodyEq;
+pub use content::BodyPartialEq;
+pub use content::CallId;
+pub use content::CallIdDebug;
+pub use content::CallIdEq;
+pub use content::CallIdPartialEq;
+pub use content::Cause;
+pub use content::CauseDebug;
+pub use content::CauseEq;
+pub use content::CausePartialEq;
+pub use content::Frame;
+pub use content::FrameDebug;
+pub use content::FrameEq;
+pub use content::FramePartialEq;
+pub use content::News;
+pub use content::NewsDebug;
+pub use content::NewsEq;
+pub use content::NewsPartialEq;
+pub use content::Operation;
+pub use content::OperationDebug;
+pub use content::OperationEq;
+pub use content::OperationPartialEq;
+pub use content::Verdict;
+pub use content::VerdictDebug;
+pub use content::VerdictEq;
+pub use content::VerdictPartialEq;
 pub use fault::Fault;
 pub use fault::FaultDebug;
 pub use fault::FaultEq;
@@ -19,3 +51,14 @@ pub use fault::Layer;
 pub use fault::LayerDebug;
 pub use fault::LayerEq;
 pub use fault::LayerPartialEq;
+pub use hex::byte;
+pub use hex::digit_value;
+pub use hex::digits;
+pub use numbers::NUMBERS;
+pub use numbers::Numbers;
+pub use octets::Octets;
+pub use reader::read;
+pub use text::read_line;
+pub use text::read_text;
+pub use text::write_text;
+pub use writer::write;

@@ -1,13 +1,20 @@
 // Bytes as a line of text: pairs of hexadecimal digits.
 ghost use mathlib.Core.Path.{_≡_};
-ghost use Prim.Native.Nat.{_<_};
+ghost use Prim.Native.Nat.{_<_, _≤_};
 ghost use lib.ListN.{length, getD};
 ghost use Rattle.std.specs.Of.String.{string-bytes};
 ghost use Rattle.std.specs.Vec.{made};
+ghost use Rattle.std.specs.declared.result.Result.the-variants.{Ok};
+ghost use Rattle.frames.specs.Examples.{examples, Hold-true};
+ghost use Rattle.frames.specs.Laws.{Spelling};
+ghost use Rattle.frames.specs.Line.{reads-line, writes-line};
+ghost use Rattle.frames.specs.Octets.{held};
 ghost use Rattle.frames.specs.Text.{reads-text, text, digit-at, told-octets};
+use crate::content::Frame;
 use crate::fault::Fault;
 use crate::hex;
 use crate::octets::Octets;
+use crate::reader::read;
 use std::alloc::AllocError;
 use std::alloc::Global;
 
@@ -23,9 +30,7 @@ fn digit_at(line: &[u8], at: usize) -> Result<u8, Fault>
     }
 }
 
-// The bytes that a line of text writes.
-// Faults: 1 for a line of over 64 bytes (place 64), 2 for an empty or odd one (its byte count), 3 for the first byte that is no digit (its index).
-pub fn read_text(line: &[u8]) -> Result<Octets, Fault>
+fn parse(line: &[u8]) -> Result<Octets, Fault>
     ensures { λ r. ⌜ told-octets r ≡ reads-text (now (line .entry)) ⌝ }
 {
     let len = line.len();
@@ -44,8 +49,16 @@ pub fn read_text(line: &[u8]) -> Result<Octets, Fault>
     Ok(octets)
 }
 
-// The digits of bytes, two for each, the high one first.
-pub fn write_text(heap: Global, bytes: &[u8]) -> Result<String, AllocError>
+// The bytes that a line of text spells. No other line spells them.
+// Faults, in the order of their checks: 1 over 64 bytes (place 64), 2 empty or odd (its byte count), 3 no digit (the index of the first).
+pub fn read_text(line: &[u8]) -> Result<Octets, Fault>
+    ensures outcome { λ r. ⌜ told-octets r ≡ reads-text (now (line .entry)) ⌝ }
+    ensures spelling { λ r. ⌜ made r (λ o. Spelling (held o) (now (line .entry))) ⌝ }
+{
+    parse(line)
+}
+
+fn spell(heap: Global, bytes: &[u8]) -> Result<String, AllocError>
     ensures { λ r. ⌜ made r (λ s. string-bytes s ≡ text (now (bytes .entry))) ⌝ }
 {
     let mut out = String::new(heap);
@@ -55,4 +68,23 @@ pub fn write_text(heap: Global, bytes: &[u8]) -> Result<String, AllocError>
         out.push(low as char)?;
     }
     Ok(out)
+}
+
+// The digits of bytes, two for each, the high one first. As many bytes as a frame may have read back from them.
+pub fn write_text(heap: Global, bytes: &[u8]) -> Result<String, AllocError>
+    ensures outcome { λ r. ⌜ made r (λ s. string-bytes s ≡ text (now (bytes .entry))) ⌝ }
+    ensures spelling { λ r. ⌜ (0 < length (now (bytes .entry)) → length (now (bytes .entry)) ≤ 32 → made r (λ s. Spelling (now (bytes .entry)) (string-bytes s))) ⌝ }
+{
+    spell(heap, bytes)
+}
+
+// The content of a frame that a line of text spells; the line is the text of its encoding.
+// Faults: those of the text, then those of the frame.
+pub fn read_line(line: &[u8]) -> Result<Frame, Fault>
+    ensures outcome { λ r. ⌜ r ≡ reads-line (now (line .entry)) ⌝ }
+    ensures anew { λ r. ⌜ made r (λ f. writes-line f ≡ Ok (now (line .entry))) ⌝ }
+    ensures examples { λ _. ⌜ Hold-true examples ⌝ }
+{
+    let octets = read_text(line)?;
+    read(octets.as_slice())
 }

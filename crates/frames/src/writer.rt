@@ -6,6 +6,7 @@ ghost use Rattle.std.specs.declared.result.Result.the-variants.{Ok};
 ghost use Rattle.frames.specs.declared.content.Verdict.the-variants.{Granted, Declined};
 ghost use Rattle.frames.specs.Bits.{Fit, total, two-octets};
 ghost use Rattle.std.specs.Vec.{made};
+ghost use Rattle.frames.specs.Laws.{Encoding};
 ghost use Rattle.frames.specs.Octets.{held};
 ghost use Rattle.frames.specs.Text.{told-octets};
 ghost use Rattle.frames.specs.Write.{bit, writes, header-octets, writes-pdu, told-pdu, Short};
@@ -147,9 +148,7 @@ fn write_header(frame: &Frame, bits: u16) -> Octets
     octets
 }
 
-// The bytes of a content.
-// Faults, in the order of their checks: 12 for a notice with exchange bit 1, 13 for the call identifier, 17 for a cause that the operation does not list.
-pub fn write(frame: &Frame) -> Result<Octets, Fault>
+fn encode(frame: &Frame) -> Result<Octets, Fault>
     ensures { λ r. ⌜ told-octets r ≡ writes (now (frame .entry)) ⌝ }
 {
     if bars_exchange(Kind::of_body(frame.body), frame.exchange) {
@@ -162,4 +161,13 @@ pub fn write(frame: &Frame) -> Result<Octets, Fault>
     let mut octets = write_header(frame, pdu.bits);
     octets.append(&pdu.octets);
     Ok(octets)
+}
+
+// The bytes of a content. They read back as it, and no other content has them.
+// Faults, in the order of their checks: 12 for a notice with exchange bit 1, 13 for the call identifier, 17 for a cause that the operation does not list.
+pub fn write(frame: &Frame) -> Result<Octets, Fault>
+    ensures outcome { λ r. ⌜ told-octets r ≡ writes (now (frame .entry)) ⌝ }
+    ensures encoding { λ r. ⌜ made r (λ o. Encoding (now (frame .entry)) (held o)) ⌝ }
+{
+    encode(frame)
 }

@@ -1,5 +1,5 @@
 use Rattle.frames.proofs.Lines.{Reading}
-use Rattle.frames.proofs.text.read_text.Given as given
+use Rattle.frames.proofs.text.parse.Given as given
 
 abbrev pub Inv-loop-i : given.InvT-loop-i
 Inv-loop-i l = Reading (l .line) (l .i) (l .octets)

@@ -2,6 +2,8 @@
 ghost use mathlib.Core.Path.{_≡_};
 ghost use Prim.Native.Nat.{_+_, _/_, _<_, _≤_};
 ghost use lib.ListN.{length};
+ghost use Rattle.std.specs.Vec.{made};
+ghost use Rattle.frames.specs.Laws.{Encoding};
 ghost use Rattle.frames.specs.Read.{reads, header, reads-header, checks-length, reads-pdu, reads-verdict, reads-request, reads-answer, reads-notice, reads-bare, reads-body};
 use crate::bits::Field;
 use crate::bits::join;
@@ -179,9 +181,7 @@ fn read_body(kind: Kind, bits: u16, bytes: &[u8]) -> Result<Body, Fault>
     }
 }
 
-// The content of a frame.
-// Faults, in the order of their checks: 11 for the byte count, 12 and 13 for the header, 14 for the length, 15 to 17 for the PDU.
-pub fn read(bytes: &[u8]) -> Result<Frame, Fault>
+fn decode(bytes: &[u8]) -> Result<Frame, Fault>
     ensures { λ r. ⌜ r ≡ reads (now (bytes .entry)) ⌝ }
 {
     if bytes.len() < 4 || bytes.len() > 32 {
@@ -195,4 +195,13 @@ pub fn read(bytes: &[u8]) -> Result<Frame, Fault>
         call: header.call,
         body,
     })
+}
+
+// The content of a frame. The bytes that are accepted are the encoding of their content, and no other bytes have it.
+// Faults, in the order of their checks: 11 byte count, 12 and 13 header, 14 length and filling, 15 to 17 PDU.
+pub fn read(bytes: &[u8]) -> Result<Frame, Fault>
+    ensures outcome { λ r. ⌜ r ≡ reads (now (bytes .entry)) ⌝ }
+    ensures encoding { λ r. ⌜ made r (λ f. Encoding f (now (bytes .entry))) ⌝ }
+{
+    decode(bytes)
 }
