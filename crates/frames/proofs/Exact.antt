@@ -90,8 +90,8 @@ module _ (b0 b1 b2 b3 : ℕ) (more : List ℕ) (small : Bytes (b0 ∷ b1 ∷ b2 
       let kd = ap kind-number k ∙ a .numbered in
       let ex = ap bit (a .exchange) ∙ bit-of (getD (header (b0 ∷ b1 ∷ b2 ∷ b3 ∷ more)) 2 0) (parts-fit header-widths number below .1 .1 .0) in
       ap (parts (8 ∷ 8 ∷ 8 ∷ 8 ∷ []))
-      ( ap joined (λ i. field 4 (kd i) ∷ field 3 (sym (a .zeros) i) ∷ field 1 (ex i) ∷ field 16 (a .call i) ∷ field 8 (a .bits i) ∷ [])
-      ∙ joined-parts header-widths number below )
+      (ap joined (λ i. field 4 (kd i) ∷ field 3 (sym (a .zeros) i) ∷ field 1 (ex i) ∷ field 16 (a .call i) ∷ field 8 (a .bits i) ∷ [])
+      ∙ joined-parts header-widths number below)
       ∙ parts-joined (octets (b0 ∷ b1 ∷ b2 ∷ b3 ∷ [])) fit
 
 -- the PDU of the body that was read is the bytes after the header
@@ -191,8 +191,8 @@ module _ (b0 b1 b2 b3 : ℕ) (more : List ℕ) (small : Bytes (b0 ∷ b1 ∷ b2 
       let h = small 4 in
       let l = small 5 in
       subst (λ w. writes-pdu (Answer o w) ≡ Ok (n, more)) same
-      ( ap (λ k. pdu-of (declined o k)) number
-      ∙ (λ i. Ok (sym fifteen i, two-same (field 6 ss-type ∷ field 5 (answer-type o) ∷ field 1 0 ∷ field 3 (getD (pdu bs) 3 0) ∷ field 1 0 ∷ []) (tail .0) (omega arith) i)) )
+      (ap (λ k. pdu-of (declined o k)) number
+      ∙ (λ i. Ok (sym fifteen i, two-same (field 6 ss-type ∷ field 5 (answer-type o) ∷ field 1 0 ∷ field 3 (getD (pdu bs) 3 0) ∷ field 1 0 ∷ []) (tail .0) (omega arith) i)))
   verdict-same n o false false c v sz ss t g e cs p = let z : _≡_ {A = ℕ} 0 1 = cc in absurd (omega arith)
 
   answered-same : (n : ℕ) (o : Option Operation) (b : Body) → Sized n (b0 ∷ b1 ∷ b2 ∷ b3 ∷ more) → getD (pdu (b0 ∷ b1 ∷ b2 ∷ b3 ∷ more)) 0 0 ≡ ss-type → answer-of (getD (pdu (b0 ∷ b1 ∷ b2 ∷ b3 ∷ more)) 1 0) ≡ o → answered n (pdu (b0 ∷ b1 ∷ b2 ∷ b3 ∷ more)) o ≡ Ok b → Same answer n more b
@@ -255,10 +255,10 @@ module _ (b0 b1 b2 b3 : ℕ) (more : List ℕ) (small : Bytes (b0 ∷ b1 ∷ b2 
       let a = accepted (header bs) (kind-of (getD (header bs) 0 0)) h refl (head .1) in
       let pdu-same = body-same (h .kind) (h .bits) b (sized (h .bits) bs (fits .1)) (body .1) in
       subst (λ g. writes g ≡ Ok bs) same
-      ( ap (λ x. unless x (in-frame 12 0) (unless (no-call (h .call .0)) (in-frame 13 1) (framed (frame h b) (writes-pdu b)))) (ap (λ k. bars-exchange k (h .exchange)) (pdu-same .of-kind) ∙ a .allowed)
+      (ap (λ x. unless x (in-frame 12 0) (unless (no-call (h .call .0)) (in-frame 13 1) (framed (frame h b) (writes-pdu b)))) (ap (λ k. bars-exchange k (h .exchange)) (pdu-same .of-kind) ∙ a .allowed)
       ∙ ap (λ x. unless x (in-frame 13 1) (framed (frame h b) (writes-pdu b))) (a .in-range)
       ∙ ap (framed (frame h b)) (pdu-same .written)
-      ∙ ap (λ l. Ok (l ++ more)) (header-same b0 b1 b2 b3 more small b h (pdu-same .of-kind) a) )
+      ∙ ap (λ l. Ok (l ++ more)) (header-same b0 b1 b2 b3 more small b h (pdu-same .of-kind) a))
 
 -- what is read of bytes is the content whose encoding they are
 pub exact : (bs : List ℕ) → Bytes bs → (f : Frame) → reads bs ≡ Ok f → writes f ≡ Ok bs

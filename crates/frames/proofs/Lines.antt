@@ -57,14 +57,14 @@ module _ (line : List ℕ) (i : ℕ) (h : i < length line / 2) where
   pub reading-next : (a b : Octets) (u v : ℕ) → Reading line i a → digit-of (getD line (2 * i) 0) ≡ Some u → digit-of (getD line (2 * i + 1) 0) ≡ Some v → held b ≡ held a ++ (u * 16 + v) ∷ [] → b .len ≡ a .len + 1 → Reading line (i + 1) b
   reading-next a b u v r p q e n = record {
     clean =
-      ap (λ k. no-digit k (drop (2 * (i + 1)) line)) (omega arith)
-      ∙ sym (ap (no-digit (2 * i + 1)) second ∙ cond-true (isSome (digit-of (getD line (2 * i + 1) 0))) _ _ (ap isSome q))
-      ∙ sym (go-on u p) ∙ r .clean;
+        ap (λ k. no-digit k (drop (2 * (i + 1)) line)) (omega arith)
+        ∙ sym (ap (no-digit (2 * i + 1)) second ∙ cond-true (isSome (digit-of (getD line (2 * i + 1) 0))) _ _ (ap isSome q))
+        ∙ sym (go-on u p) ∙ r .clean;
     so-far =
-      ap (λ l. l ++ bytes (drop (2 * (i + 1)) line)) e
-      ∙ append-assoc (held a) ((u * 16 + v) ∷ []) (bytes (drop (2 * (i + 1)) line))
-      ∙ sym (ap (λ l. held a ++ bytes l) pair-of ∙ (λ j. held a ++ ((valueOr (p j) 0 * 16 + valueOr (q j) 0) ∷ bytes (drop (2 * (i + 1)) line))))
-      ∙ r .so-far;
+        ap (λ l. l ++ bytes (drop (2 * (i + 1)) line)) e
+        ∙ append-assoc (held a) ((u * 16 + v) ∷ []) (bytes (drop (2 * (i + 1)) line))
+        ∙ sym (ap (λ l. held a ++ bytes l) pair-of ∙ (λ j. held a ++ ((valueOr (p j) 0 * 16 + valueOr (q j) 0) ∷ bytes (drop (2 * (i + 1)) line))))
+        ∙ r .so-far;
     len = n ∙ ap (λ k. k + 1) (r .len);
   }
 

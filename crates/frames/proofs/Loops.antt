@@ -102,11 +102,11 @@ module _ (ws : List ℕ) (n i left rest : ℕ) (out : List ℕ) (h : i < length 
     few = omega (arith, s .few, sum-more ws i h);
     small = mod-below rest (2 ^ (left - getD ws i 0)) (pow-pos (left - getD ws i 0));
     so-far =
-      ap (λ l. l ++ parts (drop (i + 1) ws) (rest % 2 ^ (left - getD ws i 0))) (take-more-set out i (rest / 2 ^ (left - getD ws i 0)) (omega (arith, s .long)))
-      ∙ append-assoc (take i out) (rest / 2 ^ (left - getD ws i 0) ∷ []) (parts (drop (i + 1) ws) (rest % 2 ^ (left - getD ws i 0)))
-      ∙ ap (λ k. take i out ++ (rest / 2 ^ k ∷ parts (drop (i + 1) ws) (rest % 2 ^ k))) after
-      ∙ ap (λ l. take i out ++ parts l rest) (sym (step ws i h))
-      ∙ s .so-far;
+        ap (λ l. l ++ parts (drop (i + 1) ws) (rest % 2 ^ (left - getD ws i 0))) (take-more-set out i (rest / 2 ^ (left - getD ws i 0)) (omega (arith, s .long)))
+        ∙ append-assoc (take i out) (rest / 2 ^ (left - getD ws i 0) ∷ []) (parts (drop (i + 1) ws) (rest % 2 ^ (left - getD ws i 0)))
+        ∙ ap (λ k. take i out ++ (rest / 2 ^ k ∷ parts (drop (i + 1) ws) (rest % 2 ^ k))) after
+        ∙ ap (λ l. take i out ++ parts l rest) (sym (step ws i h))
+        ∙ s .so-far;
   }
 
 pub splitting-all : (ws : List ℕ) (n i left rest : ℕ) (out : List ℕ) → length ws ≤ i → Splitting ws n i left rest out → out ≡ parts ws n

@@ -118,9 +118,9 @@ module _ (f : Frame) (bars : bars-exchange (kind (f .body)) (f .exchange) ≡ fa
       let same : all ≡ bs = cc in
       let fits : (ltb (length all) 4 || ltb 32 (length all)) ≡ false = or-from (ltb (length all) 4) (ltb 32 (length all)) (le-ltb (length all) 4 (omega arith)) (le-ltb 32 (length all) (omega (arith, g .1 .0))) in
       subst (λ l. reads l ≡ Ok f) same
-      ( ap (λ m. unless m (in-frame 11 (length all)) (after (reads-header all) (reads-rest all))) fits
+      (ap (λ m. unless m (in-frame 11 (length all)) (after (reads-header all) (reads-rest all))) fits
       ∙ ap (λ h. after h (reads-rest all)) (reads-header-back f (pdu .0) (g .0) call bars (pdu .1))
-      ∙ g .1 .1 )
+      ∙ g .1 .1)
 
 pub reads-back : (f : Frame) (bs : List ℕ) → writes f ≡ Ok bs → reads bs ≡ Ok f
 reads-back f bs e =

@@ -11,6 +11,7 @@ mod numbers;
 mod octets;
 mod reader;
 mod text;
+mod values;
 mod writer;
 
 pub use codes::cause_number;

@@ -38,12 +38,14 @@ fn header_fields(bytes: &[u8]) -> [u16; 5]
     requires { ⌜ 4 ≤ length (now bytes) ⌝ }
     ensures { λ r. ⌜ r ≡ header (now (bytes .entry)) ⌝ }
 {
-    let number = join(&[
-        Field::octet(bytes[0]),
-        Field::octet(bytes[1]),
-        Field::octet(bytes[2]),
-        Field::octet(bytes[3]),
-    ]);
+    let number = join(
+        &[
+            Field::octet(bytes[0]),
+            Field::octet(bytes[1]),
+            Field::octet(bytes[2]),
+            Field::octet(bytes[3]),
+        ],
+    );
     split(&HEADER, number)
 }
 

@@ -55,11 +55,13 @@ fn write_request(operation: Operation) -> Pdu
     ensures outcome { λ r. ⌜ told-pdu (Ok r) ≡ writes-pdu (Body.Request operation) ⌝ }
     ensures short { λ r. ⌜ Short r ⌝ }
 {
-    let octets = two_octets(&[
-        Field::new(6, NUMBERS.ss_type),
-        Field::new(5, request_type(operation)),
-        Field::new(5, 0),
-    ]);
+    let octets = two_octets(
+        &[
+            Field::new(6, NUMBERS.ss_type),
+            Field::new(5, request_type(operation)),
+            Field::new(5, 0),
+        ],
+    );
     Pdu { bits: 11, octets }
 }
 
@@ -67,12 +69,14 @@ fn write_granted(operation: Operation) -> Pdu
     ensures outcome { λ r. ⌜ told-pdu (Ok r) ≡ writes-pdu (Body.Answer operation Granted) ⌝ }
     ensures short { λ r. ⌜ Short r ⌝ }
 {
-    let octets = two_octets(&[
-        Field::new(6, NUMBERS.ss_type),
-        Field::new(5, answer_type(operation)),
-        Field::new(1, 1),
-        Field::new(4, 0),
-    ]);
+    let octets = two_octets(
+        &[
+            Field::new(6, NUMBERS.ss_type),
+            Field::new(5, answer_type(operation)),
+            Field::new(1, 1),
+            Field::new(4, 0),
+        ],
+    );
     Pdu { bits: 12, octets }
 }
 
@@ -84,13 +88,15 @@ fn write_declined(operation: Operation, cause: Cause) -> Result<Pdu, Fault>
     let Some(number) = cause_number(operation, cause) else {
         return Err(Fault::in_frame(17, 3));
     };
-    let octets = two_octets(&[
-        Field::new(6, NUMBERS.ss_type),
-        Field::new(5, answer_type(operation)),
-        Field::new(1, 0),
-        Field::new(3, number),
-        Field::new(1, 0),
-    ]);
+    let octets = two_octets(
+        &[
+            Field::new(6, NUMBERS.ss_type),
+            Field::new(5, answer_type(operation)),
+            Field::new(1, 0),
+            Field::new(3, number),
+            Field::new(1, 0),
+        ],
+    );
     Ok(Pdu { bits: 15, octets })
 }
 
@@ -132,13 +138,15 @@ fn write_header(frame: &Frame, bits: u16) -> Octets
     ensures len { λ r. ⌜ r .len ≡ 4 ⌝ }
 {
     let kind = Kind::of_body(frame.body).number();
-    let number = join(&[
-        Field::new(4, kind),
-        Field::new(3, 0),
-        Field::new(1, exchange_bit(frame.exchange)),
-        Field::new(16, frame.call.0),
-        Field::new(8, bits),
-    ]);
+    let number = join(
+        &[
+            Field::new(4, kind),
+            Field::new(3, 0),
+            Field::new(1, exchange_bit(frame.exchange)),
+            Field::new(16, frame.call.0),
+            Field::new(8, bits),
+        ],
+    );
     let [kind, call_high, call_low, count] = split(&[8, 8, 8, 8], number);
     let mut octets = Octets::empty();
     octets.push(kind as u8);

@@ -10,9 +10,10 @@ pub loop-i-again : need.loop-i-again
 loop-i-again c =
     let more = c .args .more .now .bytes in
     let i = c .loop-i .i in
-    let start = held (c .args .self .now) in
-    (omega (arith, c .loop-i .inv .0, c .push .ensures .len),
-     c .push .ensures .held
-     ∙ ap (λ l. l ++ getD more i 0 ∷ []) (c .loop-i .inv .1)
-     ∙ append-assoc start (take i more) (getD more i 0 ∷ [])
-     ∙ ap (λ l. start ++ l) (sym (take-more more i 0 (omega arith))))
+    let start = held (c .args .self .now) in (
+      omega (arith, c .loop-i .inv .0, c .push .ensures .len),
+      c .push .ensures .held
+          ∙ ap (λ l. l ++ getD more i 0 ∷ []) (c .loop-i .inv .1)
+          ∙ append-assoc start (take i more) (getD more i 0 ∷ [])
+          ∙ ap (λ l. start ++ l) (sym (take-more more i 0 (omega arith))),
+    )
