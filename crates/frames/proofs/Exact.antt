@@ -23,16 +23,16 @@ use Rattle.frames.specs.declared.content.News.{News}
 use Rattle.frames.specs.declared.content.Operation.{Operation}
 use Rattle.frames.specs.declared.content.Verdict.{Verdict}
 use Rattle.frames.specs.declared.content.Verdict.the-variants.{Granted, Declined}
-use Rattle.frames.specs.declared.fault.Fault.{Fault}
+use Rattle.text.specs.declared.fault.Fault.{Fault}
 use Rattle.frames.specs.declared.reader.Header.{Header}
 use Rattle.frames.specs.Bits.{field, Fit, joined, octets, parts}
 use Rattle.frames.specs.Codes.{bearing, is, kind, kind-number, kind-of, kinds, operations, causes, all-news, ss-type, request-type, request-of, answer-type, answer-of, cause-number, cause-of, news-number, news-of}
-use Rattle.frames.specs.Fault.{in-frame, unless}
-use Rattle.frames.specs.Laws.{Bytes}
+use Rattle.text.specs.Fault.{in-frame, after, unless}
+use Rattle.text.specs.Laws.{Bytes}
 use Rattle.frames.specs.Layout.{header-widths, pdu-octets, filling, no-call, bars-exchange}
-use Rattle.frames.specs.Read.{header, of-kind, reads, reads-header, reads-rest, checks-length, pdu, reads-pdu, requested, reads-request, verdict, listed, reads-verdict, answered, reads-answer, noticed, reads-notice, reads-bare, reads-body, frame, after}
+use Rattle.frames.specs.Read.{header, of-kind, reads, reads-header, reads-rest, checks-length, pdu, reads-pdu, requested, reads-request, verdict, listed, reads-verdict, answered, reads-answer, noticed, reads-notice, reads-bare, reads-body, frame}
 use Rattle.frames.specs.Write.{bit, header-fields, header-octets, declined, framed, pdu-of, writes, writes-pdu}
-use Rattle.frames.proofs.Checks.{passed, came}
+use Rattle.text.proofs.Checks.{passed, came}
 use Rattle.frames.proofs.Regroup.{fields, joined-small, joined-parts, parts-fit, parts-joined, values}
 
 -- what is found under a number bears it

@@ -1,10 +1,6 @@
-pub mod Checks
 pub mod Exact
-pub mod Lines
 pub mod Loops
 pub mod Promises
 pub mod Regroup
-pub mod Spelling
-pub mod Table
 pub mod Widths
 pub mod Written

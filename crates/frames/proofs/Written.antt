@@ -21,15 +21,15 @@ use Rattle.frames.specs.declared.content.Frame.{Frame}
 use Rattle.frames.specs.declared.content.News.the-variants.{PutOnHold, Retrieved, Released}
 use Rattle.frames.specs.declared.content.Operation.the-variants.{Hold, Retrieve}
 use Rattle.frames.specs.declared.content.Verdict.the-variants.{Granted, Declined}
-use Rattle.frames.specs.declared.fault.Fault.{Fault}
+use Rattle.text.specs.declared.fault.Fault.{Fault}
 use Rattle.frames.specs.declared.reader.Header.{Header}
 use Rattle.frames.specs.Bits.{Fit, joined, octets, parts, total}
 use Rattle.frames.specs.Codes.{kind, kind-number, kind-of}
-use Rattle.frames.specs.Fault.{in-frame, unless}
+use Rattle.text.specs.Fault.{in-frame, after, unless}
 use Rattle.frames.specs.Layout.{header-widths, no-call, bars-exchange}
-use Rattle.frames.specs.Read.{header, of-kind, reads, reads-header, reads-rest, after}
+use Rattle.frames.specs.Read.{header, of-kind, reads, reads-header, reads-rest}
 use Rattle.frames.specs.Write.{bit, header-fields, header-octets, framed, writes, writes-pdu}
-use Rattle.frames.proofs.Checks.{passed}
+use Rattle.text.proofs.Checks.{passed}
 use Rattle.frames.proofs.Regroup.{joined-small, joined-parts, parts-joined, values}
 
 kind-small : (k : Kind) → kind-number k < 2 ^ 4

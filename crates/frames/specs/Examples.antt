@@ -12,8 +12,8 @@ use Rattle.frames.specs.declared.content.Cause.the-variants.{CallNotThere}
 use Rattle.frames.specs.declared.content.Frame.{Frame}
 use Rattle.frames.specs.declared.content.Operation.the-variants.{Retrieve}
 use Rattle.frames.specs.declared.content.Verdict.the-variants.{Granted, Declined}
-use Rattle.frames.specs.declared.fault.Fault.{Fault}
-use Rattle.frames.specs.Fault.{in-frame}
+use Rattle.text.specs.declared.fault.Fault.{Fault}
+use Rattle.text.specs.Fault.{in-frame}
 use Rattle.frames.specs.Line.{reads-line}
 
 abbrev pub Example : Type 0

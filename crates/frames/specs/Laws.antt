@@ -1,18 +1,13 @@
 -- The laws of reading and writing, in the words of the format. Assumes nothing.
 use mathlib.Core.Path.{_≡_}
 use mathlib.Core.List.{List}
-use Prim.Native.Nat.{ℕ, _<_}
-use lib.ListN.{getD}
+use Prim.Native.Nat.{ℕ}
 use Rattle.std.specs.declared.result.Result.{Result}
 use Rattle.std.specs.declared.result.Result.the-variants.{Ok}
 use Rattle.frames.specs.declared.content.Frame.{Frame}
 use Rattle.frames.specs.Read.{reads}
-use Rattle.frames.specs.Text.{text, reads-text}
 use Rattle.frames.specs.Write.{writes}
-
--- numbers that are bytes
-abbrev pub Bytes : List ℕ → Type 0
-Bytes bs = (i : ℕ) → getD bs i 0 < 256
+use Rattle.text.specs.Laws.{Bytes}
 
 -- the encoding of a content: what is written of it is these bytes, what is read of them is it, and neither is shared
 pub record Encoding (f : Frame) (bs : List ℕ) : Type 0 where
@@ -20,9 +15,3 @@ pub record Encoding (f : Frame) (bs : List ℕ) : Type 0 where
   pub read-back : reads bs ≡ Ok f
   pub one-frame : (other : List ℕ) → Bytes other → reads other ≡ Ok f → other ≡ bs
   pub one-content : (other : Frame) → writes other ≡ Ok bs → other ≡ f
-
--- the line of text that spells bytes: what is written of them is it, what is read of it is them, and no second line reads so
-pub record Spelling (bs line : List ℕ) : Type 0 where
-  pub written : text bs ≡ line
-  pub read-back : reads-text line ≡ Ok bs
-  pub one-line : (other : List ℕ) → reads-text other ≡ Ok bs → other ≡ line

@@ -1,12 +1,8 @@
 pub mod Bits
 pub mod Codes
 pub mod Examples
-pub mod Fault
-pub mod Hex
 pub mod Laws
 pub mod Layout
 pub mod Line
-pub mod Octets
 pub mod Read
-pub mod Text
 pub mod Write

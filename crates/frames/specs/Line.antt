@@ -4,9 +4,10 @@ use Prim.Native.Nat.{ℕ}
 use Rattle.std.specs.declared.result.Result.{Result}
 use Rattle.std.specs.declared.result.Result.the-variants.{Ok}
 use Rattle.frames.specs.declared.content.Frame.{Frame}
-use Rattle.frames.specs.declared.fault.Fault.{Fault}
-use Rattle.frames.specs.Read.{after, reads}
-use Rattle.frames.specs.Text.{reads-text, text}
+use Rattle.text.specs.declared.fault.Fault.{Fault}
+use Rattle.frames.specs.Read.{reads}
+use Rattle.text.specs.Fault.{after}
+use Rattle.text.specs.Text.{reads-text, text}
 use Rattle.frames.specs.Write.{writes}
 
 abbrev pub reads-line : List ℕ → Result Frame Fault

@@ -18,11 +18,11 @@ use Rattle.frames.specs.declared.content.News.{News}
 use Rattle.frames.specs.declared.content.Operation.{Operation}
 use Rattle.frames.specs.declared.content.Verdict.{Verdict}
 use Rattle.frames.specs.declared.content.Verdict.the-variants.{Granted, Declined}
-use Rattle.frames.specs.declared.fault.Fault.{Fault}
+use Rattle.text.specs.declared.fault.Fault.{Fault}
 use Rattle.frames.specs.declared.reader.Header.{Header}
 use Rattle.frames.specs.Bits.{joined, octets, parts}
 use Rattle.frames.specs.Codes.{kind-of, ss-type, request-of, answer-of, cause-of, news-of}
-use Rattle.frames.specs.Fault.{in-frame, unless}
+use Rattle.text.specs.Fault.{in-frame, after, unless}
 use Rattle.frames.specs.Layout.{header-widths, pdu-widths, pdu-octets, filling, no-call, bars-exchange}
 
 -- the fields of the first four bytes
@@ -56,11 +56,6 @@ reads-pdu n bs =
     unless (ltb n 11) (in-frame 15 4)
     (unless (not (eqb (getD (pdu bs) 0 0) ss-type)) (in-frame 15 4)
     (Ok (pdu bs)))
-
--- what comes of an answer, if a check before it did not fail
-abbrev pub after : {X Y : Type 0} → Result X Fault → (X → Result Y Fault) → Result Y Fault
-after (Ok x) k = k x
-after (Err f) k = Err f
 
 abbrev pub requested : ℕ → Option Operation → Result Body Fault
 requested n None = Err (in-frame 16 4)

@@ -2,7 +2,7 @@
 use mathlib.Core.Bool.{Bool, true, false}
 use mathlib.Core.List.{List, [], _∷_, _++_}
 use Prim.Native.Nat.{ℕ, _+_, _-_, _*_, _/_, _≤_}
-use lib.ListN.{replicate}
+use lib.ListN.{length, replicate}
 use Rattle.std.specs.declared.option.Option.{Option}
 use Rattle.std.specs.declared.option.Option.the-variants.{Some, None}
 use Rattle.std.specs.declared.result.Result.{Result}
@@ -13,13 +13,13 @@ use Rattle.frames.specs.declared.content.Body.the-variants.{Request, Answer, C
 use Rattle.frames.specs.declared.content.Frame.{Frame}
 use Rattle.frames.specs.declared.content.Operation.{Operation}
 use Rattle.frames.specs.declared.content.Verdict.the-variants.{Granted, Declined}
-use Rattle.frames.specs.declared.fault.Fault.{Fault}
+use Rattle.text.specs.declared.fault.Fault.{Fault}
 use Rattle.frames.specs.declared.writer.Pdu.{Pdu}
 use Rattle.frames.specs.Bits.{field, total, joined, parts}
 use Rattle.frames.specs.Codes.{kind, kind-number, ss-type, request-type, answer-type, cause-number, news-number}
-use Rattle.frames.specs.Fault.{in-frame, unless}
+use Rattle.text.specs.Fault.{in-frame, unless}
 use Rattle.frames.specs.Layout.{pdu-octets, filling, no-call, bars-exchange}
-use Rattle.frames.specs.Octets.{held}
+use Rattle.text.specs.Octets.{held}
 
 abbrev pub bit : Bool → ℕ
 bit true = 1
@@ -79,4 +79,4 @@ told-pdu (Err f) = Err f
 -- no PDU has more than 15 bits, in two bytes
 pub record Short (p : Pdu) : Type 0 where
   pub bits : p .bits ≤ 15
-  pub octets : p .octets .len ≤ 2
+  pub octets : length (held (p .octets)) ≤ 2

@@ -1,17 +1,13 @@
-// Frames of the call-hold service: their content, their bytes and their text.
-// To the crates above it promises that reading and writing equal their definitions, that what is written reads back, and that
-// no two frames have one content nor two contents one frame. Every refusal is a `Fault`, handed up unchanged. It uses `std` alone.
+// Frames of the call-hold service: their content and their bytes.
+// To the crates above it promises that reading and writing equal their definitions, that what is written reads back, and that no two
+// frames have one content nor two contents one frame. It uses `text` for faults, octets and lines of text.
 mod bits;
 mod codes;
 mod content;
-mod fault;
-mod hex;
 mod layout;
+mod line;
 mod numbers;
-mod octets;
 mod reader;
-mod text;
-mod values;
 mod writer;
 
 pub use codes::cause_number;
@@ -44,22 +40,8 @@ pub use content::Verdict;
 pub use content::VerdictDebug;
 pub use content::VerdictEq;
 pub use content::VerdictPartialEq;
-pub use fault::Fault;
-pub use fault::FaultDebug;
-pub use fault::FaultEq;
-pub use fault::FaultPartialEq;
-pub use fault::Layer;
-pub use fault::LayerDebug;
-pub use fault::LayerEq;
-pub use fault::LayerPartialEq;
-pub use hex::byte;
-pub use hex::digit_value;
-pub use hex::digits;
+pub use line::read_line;
 pub use numbers::NUMBERS;
 pub use numbers::Numbers;
-pub use octets::Octets;
 pub use reader::read;
-pub use text::read_line;
-pub use text::read_text;
-pub use text::write_text;
 pub use writer::write;

@@ -18,12 +18,12 @@ use crate::content::CallId;
 use crate::content::Frame;
 use crate::content::Operation;
 use crate::content::Verdict;
-use crate::fault::Fault;
 use crate::layout::HEADER;
 use crate::layout::PDU;
 use crate::layout::bars_exchange;
 use crate::layout::no_call;
 use crate::numbers::NUMBERS;
+use text::Fault;
 
 #[derive(Clone, Copy)]
 pub struct Header {

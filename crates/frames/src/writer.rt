@@ -7,8 +7,8 @@ ghost use Rattle.frames.specs.declared.content.Verdict.the-variants.{Granted, 
 ghost use Rattle.frames.specs.Bits.{Fit, total, two-octets};
 ghost use Rattle.std.specs.Vec.{made};
 ghost use Rattle.frames.specs.Laws.{Encoding};
-ghost use Rattle.frames.specs.Octets.{held};
-ghost use Rattle.frames.specs.Text.{told-octets};
+ghost use Rattle.text.specs.Octets.{held};
+ghost use Rattle.text.specs.Text.{told-octets};
 ghost use Rattle.frames.specs.Write.{bit, writes, header-octets, writes-pdu, told-pdu, Short};
 use crate::bits::Field;
 use crate::bits::join;
@@ -24,11 +24,11 @@ use crate::content::Frame;
 use crate::content::News;
 use crate::content::Operation;
 use crate::content::Verdict;
-use crate::fault::Fault;
 use crate::layout::bars_exchange;
 use crate::layout::no_call;
 use crate::numbers::NUMBERS;
-use crate::octets::Octets;
+use text::Fault;
+use text::Octets;
 
 // A PDU: how many bits it has, and the bytes that it takes.
 #[derive(Clone, Copy)]
@@ -41,13 +41,11 @@ pub struct Pdu {
 fn two_octets(fields: &[Field]) -> Octets
     requires fit { ⌜ Fit (now fields) ⌝ }
     requires whole { ⌜ total (now fields) ≡ 16 ⌝ }
-    ensures held { λ r. ⌜ held r ≡ two-octets (now (fields .entry)) ⌝ }
-    ensures len { λ r. ⌜ r .len ≡ 2 ⌝ }
+    ensures { λ r. ⌜ held r ≡ two-octets (now (fields .entry)) ⌝ }
 {
     let [high, low] = split(&[8, 8], join(fields));
     let mut octets = Octets::empty();
-    octets.push(high as u8);
-    octets.push(low as u8);
+    octets.append(&[high as u8, low as u8]);
     octets
 }
 
@@ -105,7 +103,7 @@ fn write_notice(news: News) -> Pdu
     ensures short { λ r. ⌜ Short r ⌝ }
 {
     let mut octets = Octets::empty();
-    octets.push(news_number(news) as u8);
+    octets.append(&[news_number(news) as u8]);
     Pdu { bits: 8, octets }
 }
 
@@ -134,8 +132,7 @@ fn exchange_bit(exchange: bool) -> u16
 
 fn write_header(frame: &Frame, bits: u16) -> Octets
     requires { ⌜ bits < 256 ⌝ }
-    ensures held { λ r. ⌜ held r ≡ header-octets (now (frame .entry)) bits ⌝ }
-    ensures len { λ r. ⌜ r .len ≡ 4 ⌝ }
+    ensures { λ r. ⌜ held r ≡ header-octets (now (frame .entry)) bits ⌝ }
 {
     let kind = Kind::of_body(frame.body).number();
     let number = join(
@@ -149,10 +146,7 @@ fn write_header(frame: &Frame, bits: u16) -> Octets
     );
     let [kind, call_high, call_low, count] = split(&[8, 8, 8, 8], number);
     let mut octets = Octets::empty();
-    octets.push(kind as u8);
-    octets.push(call_high as u8);
-    octets.push(call_low as u8);
-    octets.push(count as u8);
+    octets.append(&[kind as u8, call_high as u8, call_low as u8, count as u8]);
     octets
 }
 
@@ -167,7 +161,7 @@ fn encode(frame: &Frame) -> Result<Octets, Fault>
     }
     let pdu = write_pdu(frame.body)?;
     let mut octets = write_header(frame, pdu.bits);
-    octets.append(&pdu.octets);
+    octets.append(pdu.octets.as_slice());
     Ok(octets)
 }
 

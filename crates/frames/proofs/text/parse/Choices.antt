@@ -1,5 +1,0 @@
-use Rattle.frames.proofs.Lines.{Reading}
-use Rattle.frames.proofs.text.parse.Given as given
-
-abbrev pub Inv-loop-i : given.InvT-loop-i
-Inv-loop-i l = Reading (l .line) (l .i) (l .octets)

@@ -1,9 +1,0 @@
-use Rattle.std.proofs.shelf.Results.{made-weaker}
-use Rattle.frames.proofs.Promises.{write-text-promise}
-use Rattle.frames.proofs.text.write_text.Needs as need
-
-pub returns : need.returns
-returns c = record {
-  outcome = c .spell .ensures;
-  spelling = λ some few. made-weaker (c .spell .result) _ _ (λ s e. write-text-promise (c .args .bytes .now) _ (λ i. c .typed .bytes i .fits) e some few) (c .spell .ensures);
-}

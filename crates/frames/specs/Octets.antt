@@ -1,8 +1,0 @@
--- The bytes that octets hold. Assumes nothing.
-use mathlib.Core.List.{List}
-use Prim.Native.Nat.{ℕ}
-use lib.ListN.{take}
-use Rattle.frames.specs.declared.octets.Octets.{Octets}
-
-abbrev pub held : Octets → List ℕ
-held o = take (o .len) (o .bytes)

@@ -1,0 +1,5 @@
+pub mod Fault
+pub mod Hex
+pub mod Laws
+pub mod Octets
+pub mod Text
