@@ -1,25 +1,21 @@
 -- What is written of bytes as text reads back, and what is read is written so. Assumes nothing.
 use mathlib.Core.Path.{_≡_, refl, sym, ap, subst, _∙_}
-use mathlib.Core.Bool.{Bool, true, false, cond, _&&_, _||_}
+use mathlib.Core.Bool.{cond}
 use mathlib.Core.List.{List, [], _∷_, _++_}
 use Prim.Native.Nat.{ℕ, zero, suc, _+_, _-_, _*_, _/_, _%_, _<_, _≤_}
 use native.Mathlib.Omega.{arith}
-use lib.Dec.{eqb, leb, ltb}
 use lib.ListN.{length, getD}
-use Rattle.std.proofs.shelf.Tests.{cond-true, le-ltb, ne-eqb, or-parts, eqb-false}
+use Rattle.std.proofs.shelf.Tests.{cond-true}
 use Rattle.std.proofs.shelf.Ways.{tells}
 use Rattle.std.specs.Options.{isSome, valueOr}
 use Rattle.std.specs.declared.option.Option.{Option}
 use Rattle.std.specs.declared.option.Option.the-variants.{Some, None}
-use Rattle.std.specs.declared.result.Result.{Result}
-use Rattle.std.specs.declared.result.Result.the-variants.{Ok, Err}
-use Rattle.text.specs.declared.fault.Fault.{Fault}
-use Rattle.text.specs.Fault.{in-line, unless}
+use Rattle.std.specs.declared.result.Result.the-variants.{Ok}
 use Rattle.text.specs.Hex.{digit, digit-of, pair}
-use Rattle.text.specs.Laws.{Bytes, Spelling}
-use Rattle.text.specs.Text.{text, no-digit, bytes, all-digits, reads-text}
-use Rattle.text.proofs.Checks.{passed}
-use Rattle.text.proofs.Lines.{passes}
+use Rattle.text.specs.Laws.{Bytes}
+use Rattle.text.specs.Text.{text, no-digit, bytes, all-digits, checks-size, reads-text}
+use Rattle.text.proofs.Checks.{came}
+use Rattle.text.proofs.Lines.{good-size, passes, size-checked}
 
 pub digit-back : (v : ℕ) → v < 16 → digit-of (digit v) ≡ Some v
 digit-back v h = grind (arith, tells)
@@ -57,12 +53,10 @@ clean None line bs e = (refl, cc)
 
 pub spelled : (line bs : List ℕ) → reads-text line ≡ Ok bs → text bs ≡ line
 spelled line bs e =
-    let short = passed (ltb 64 (length line)) (in-line 1 64) _ bs e in
-    let even = passed (eqb (length line) 0 || eqb (length line % 2) 1) (in-line 2 (length line)) _ bs (short .1) in
-    let odd = eqb-false (length line % 2) 1 (or-parts (eqb (length line) 0) (eqb (length line % 2) 1) (even .0) .1) in
-    let all = clean (no-digit 0 line) line bs (even .1) in
-    let rest : length line % 2 ≡ 0 = omega arith in
-    sym (ap text (all .1)) ∙ respelled 0 line (all .0) rest
+    let size = came (checks-size (length line)) (λ _. all-digits (no-digit 0 line) line) bs e in
+    let even = size-checked (length line) (size .1) in
+    let all = clean (no-digit 0 line) line bs (size .2) in
+    sym (ap text (all .1)) ∙ respelled 0 line (all .0) (even .1)
 
 -- the bytes after the first are bytes
 rest-bytes : (b : ℕ) (bs : List ℕ) → Bytes (b ∷ bs) → Bytes bs
@@ -92,6 +86,6 @@ text-length (b ∷ bs) = let ih = text-length bs in omega arith
 pub read-again : (bs : List ℕ) → Bytes bs → 0 < length bs → length bs ≤ 32 → reads-text (text bs) ≡ Ok bs
 read-again bs h some few =
     let long = text-length bs in
-    passes (text bs) (omega arith) (λ e. omega arith) (λ e. omega arith)
+    passes (text bs) (good-size (length (text bs)) (omega arith) (omega arith) (omega arith))
     ∙ ap (λ o. all-digits o (text bs)) (all-clean 0 bs h)
     ∙ ap Ok (reread bs h)

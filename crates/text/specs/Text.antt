@@ -11,7 +11,7 @@ use Rattle.std.specs.declared.result.Result.{Result}
 use Rattle.std.specs.declared.result.Result.the-variants.{Ok, Err}
 use Rattle.text.specs.declared.fault.Fault.{Fault}
 use Rattle.text.specs.declared.octets.Octets.{Octets}
-use Rattle.text.specs.Fault.{in-line, unless}
+use Rattle.text.specs.Fault.{in-line, after, unless}
 use Rattle.text.specs.Hex.{digit-of, pair}
 use Rattle.text.specs.Octets.{held}
 
@@ -35,12 +35,16 @@ abbrev pub all-digits : Option ℕ → List ℕ → Result (List ℕ) Fault
 all-digits (Some i) line = Err (in-line 3 i)
 all-digits None line = Ok (bytes line)
 
--- what is read of a line, with the checks in their order
+-- the size of a line, with its checks in their order
+abbrev pub checks-size : ℕ → Result Unit Fault
+checks-size n =
+    unless (ltb 64 n) (in-line 1 64)
+    (unless (eqb n 0 || eqb (n % 2) 1) (in-line 2 n)
+    (Ok tt))
+
+-- what is read of a line
 abbrev pub reads-text : List ℕ → Result (List ℕ) Fault
-reads-text line =
-    unless (ltb 64 (length line)) (in-line 1 64)
-    (unless (eqb (length line) 0 || eqb (length line % 2) 1) (in-line 2 (length line))
-    (all-digits (no-digit 0 line) line))
+reads-text line = after (checks-size (length line)) (λ _. all-digits (no-digit 0 line) line)
 
 -- the value of a byte at a place as a digit
 abbrev pub digit-or : Option ℕ → ℕ → Result ℕ Fault
@@ -49,6 +53,10 @@ digit-or None i = Err (in-line 3 i)
 
 abbrev pub digit-at : ℕ → ℕ → Result ℕ Fault
 digit-at i b = digit-or (digit-of b) i
+
+-- the byte that two digits at a place and the next spell
+abbrev pub byte-at : ℕ → ℕ → ℕ → Result ℕ Fault
+byte-at i h l = after (digit-at i h) (λ u. after (digit-at (i + 1) l) (λ v. Ok (u * 16 + v)))
 
 -- an answer by the bytes that it holds
 abbrev pub told-octets : Result Octets Fault → Result (List ℕ) Fault

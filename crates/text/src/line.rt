@@ -1,12 +1,14 @@
 // Bytes as a line of text: pairs of hexadecimal digits.
 ghost use mathlib.Core.Path.{_≡_};
-ghost use Prim.Native.Nat.{_<_, _≤_};
+ghost use Prim.Native.Nat.{_+_, _<_, _≤_};
 ghost use lib.ListN.{length, getD};
 ghost use Rattle.std.specs.Of.String.{string-bytes};
 ghost use Rattle.std.specs.Vec.{made};
 ghost use Rattle.text.specs.Laws.{Spelling};
 ghost use Rattle.text.specs.Octets.{held};
-ghost use Rattle.text.specs.Text.{reads-text, text, digit-at, told-octets};
+ghost use Rattle.text.specs.Text.{reads-text, text, checks-size, digit-at, byte-at, told-octets};
+ghost use Rattle.text.specs.Hex.{pair};
+ghost use mathlib.Core.List.{_++_};
 use crate::fault::Fault;
 use crate::hex;
 use crate::octets::Octets;
@@ -25,21 +27,36 @@ fn digit_at(line: &[u8], at: usize) -> Result<u8, Fault>
     }
 }
 
-fn parse(line: &[u8]) -> Result<Octets, Fault>
-    ensures { λ r. ⌜ told-octets r ≡ reads-text (now (line .entry)) ⌝ }
+// 1 for a line of over 64 bytes, 2 for an empty or odd one.
+fn check_size(len: usize) -> Result<(), Fault>
+    ensures { λ r. ⌜ r ≡ checks-size len ⌝ }
 {
-    let len = line.len();
     if len > 64 {
         return Err(Fault::in_line(1, 64));
     }
     if len == 0 || len % 2 == 1 {
         return Err(Fault::in_line(2, len));
     }
+    Ok(())
+}
+
+// The byte that the pair of digits at an even index spells.
+fn byte_at(line: &[u8], at: usize) -> Result<u8, Fault>
+    requires { ⌜ at + 1 < length (now line) ⌝ }
+    ensures { λ r. ⌜ r ≡ byte-at at (getD (now (line .entry)) at 0) (getD (now (line .entry)) (at + 1) 0) ⌝ }
+{
+    let high = digit_at(line, at)?;
+    let low = digit_at(line, at + 1)?;
+    Ok(high * 16 + low)
+}
+
+fn parse(line: &[u8]) -> Result<Octets, Fault>
+    ensures { λ r. ⌜ told-octets r ≡ reads-text (now (line .entry)) ⌝ }
+{
+    check_size(line.len())?;
     let mut octets = Octets::empty();
-    for i in 0..len / 2 {
-        let high = digit_at(line, 2 * i)?;
-        let low = digit_at(line, 2 * i + 1)?;
-        octets.push(high * 16 + low);
+    for i in 0..line.len() / 2 {
+        octets.push(byte_at(line, 2 * i)?);
     }
     Ok(octets)
 }
@@ -53,14 +70,21 @@ pub fn read_text(line: &[u8]) -> Result<Octets, Fault>
     parse(line)
 }
 
+fn push_byte(out: &mut String, byte: u8) -> Result<(), AllocError>
+    ensures { λ r. ⌜ made r (λ _. string-bytes (now (out .exit)) ≡ string-bytes (now (out .entry)) ++ pair byte) ⌝ }
+{
+    let [high, low] = hex::digits(byte);
+    out.push(high as char)?;
+    out.push(low as char)?;
+    Ok(())
+}
+
 fn spell(heap: Global, bytes: &[u8]) -> Result<String, AllocError>
     ensures { λ r. ⌜ made r (λ s. string-bytes s ≡ text (now (bytes .entry))) ⌝ }
 {
     let mut out = String::new(heap);
     for b in bytes {
-        let [high, low] = hex::digits(*b);
-        out.push(high as char)?;
-        out.push(low as char)?;
+        push_byte(&mut out, *b)?;
     }
     Ok(out)
 }
