@@ -41,7 +41,5 @@ pub use content::VerdictDebug;
 pub use content::VerdictEq;
 pub use content::VerdictPartialEq;
 pub use line::read_line;
-pub use numbers::NUMBERS;
-pub use numbers::Numbers;
 pub use reader::read;
 pub use writer::write;
