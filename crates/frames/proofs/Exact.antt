@@ -29,7 +29,7 @@ use Rattle.frames.specs.Bits.{field, Fit, joined, octets, parts}
 use Rattle.frames.specs.Codes.{bearing, is, kind, kind-number, kind-of, kinds, operations, causes, all-news, ss-type, request-type, request-of, answer-type, answer-of, cause-number, cause-of, news-number, news-of}
 use Rattle.text.specs.Fault.{in-frame, after, unless}
 use Rattle.text.specs.Laws.{Bytes}
-use Rattle.frames.specs.Layout.{header-widths, pdu-octets, filling, no-call, bars-exchange}
+use Rattle.frames.specs.Layout.{header-widths, pdu-octets, filling, no-call, bars-bit}
 use Rattle.frames.specs.Read.{header, of-kind, reads, reads-header, reads-rest, checks-length, pdu, reads-pdu, requested, reads-request, verdict, listed, reads-verdict, answered, reads-answer, noticed, reads-notice, reads-bare, reads-body, frame}
 use Rattle.frames.specs.Write.{bit, header-fields, header-octets, declined, framed, pdu-of, writes, writes-pdu}
 use Rattle.text.proofs.Checks.{passed, came}
@@ -55,14 +55,14 @@ record Accepted (hd : List ℕ) (h : Header) : Type 0 where
   exchange : h .exchange ≡ eqb (getD hd 2 0) 1
   call : h .call .0 ≡ getD hd 3 0
   bits : h .bits ≡ getD hd 4 0
-  allowed : bars-exchange (h .kind) (h .exchange) ≡ false
+  allowed : bars-bit (h .kind) (h .exchange) ≡ false
   in-range : no-call (h .call .0) ≡ false
 
 accepted : (hd : List ℕ) (o : Option Kind) (h : Header) → kind-of (getD hd 0 0) ≡ o → of-kind o hd ≡ Ok h → Accepted hd h
 accepted hd None h k e = let z : _≡_ {A = ℕ} 0 1 = cc in absurd (omega arith)
 accepted hd (Some kd) h k e =
     let zeros = passed (not (eqb (getD hd 1 0) 0)) (in-frame 12 0) _ h e in
-    let bars = passed (bars-exchange kd (eqb (getD hd 2 0) 1)) (in-frame 12 0) _ h (zeros .1) in
+    let bars = passed (bars-bit kd (eqb (getD hd 2 0) 1)) (in-frame 12 0) _ h (zeros .1) in
     let call = passed (no-call (getD hd 3 0)) (in-frame 13 1) _ h (bars .1) in
     let same : record { kind = kd; exchange = eqb (getD hd 2 0) 1; call = record { 0 = getD hd 3 0 }; bits = getD hd 4 0 } ≡ h = cc in
     subst (Accepted hd) same (record {
@@ -255,7 +255,7 @@ module _ (b0 b1 b2 b3 : ℕ) (more : List ℕ) (small : Bytes (b0 ∷ b1 ∷ b2 
       let a = accepted (header bs) (kind-of (getD (header bs) 0 0)) h refl (head .1) in
       let pdu-same = body-same (h .kind) (h .bits) b (sized (h .bits) bs (fits .1)) (body .1) in
       subst (λ g. writes g ≡ Ok bs) same
-      (ap (λ x. unless x (in-frame 12 0) (unless (no-call (h .call .0)) (in-frame 13 1) (framed (frame h b) (writes-pdu b)))) (ap (λ k. bars-exchange k (h .exchange)) (pdu-same .of-kind) ∙ a .allowed)
+      (ap (λ x. unless x (in-frame 12 0) (unless (no-call (h .call .0)) (in-frame 13 1) (framed (frame h b) (writes-pdu b)))) (ap (λ k. bars-bit k (h .exchange)) (pdu-same .of-kind) ∙ a .allowed)
       ∙ ap (λ x. unless x (in-frame 13 1) (framed (frame h b) (writes-pdu b))) (a .in-range)
       ∙ ap (framed (frame h b)) (pdu-same .written)
       ∙ ap (λ l. Ok (l ++ more)) (header-same b0 b1 b2 b3 more small b h (pdu-same .of-kind) a))

@@ -26,7 +26,7 @@ use Rattle.frames.specs.declared.reader.Header.{Header}
 use Rattle.frames.specs.Bits.{Fit, joined, octets, parts, total}
 use Rattle.frames.specs.Codes.{kind, kind-number, kind-of}
 use Rattle.text.specs.Fault.{in-frame, after, unless}
-use Rattle.frames.specs.Layout.{header-widths, no-call, bars-exchange}
+use Rattle.frames.specs.Layout.{header-widths, no-call, bars-bit}
 use Rattle.frames.specs.Read.{header, of-kind, reads, reads-header, reads-rest}
 use Rattle.frames.specs.Write.{bit, header-fields, header-octets, framed, writes, writes-pdu}
 use Rattle.text.proofs.Checks.{passed}
@@ -70,11 +70,11 @@ module _ (f : Frame) (n : ℕ) (few : n < 256) (call : no-call (f .call .0) ≡ 
       ap (parts header-widths) (joined-parts (8 ∷ 8 ∷ 8 ∷ 8 ∷ []) (joined (header-fields f n)) (joined-small (header-fields f n) fit))
       ∙ parts-joined (header-fields f n) fit
 
-  pub reads-header-back : bars-exchange (kind (f .body)) (f .exchange) ≡ false → (more : List ℕ) → reads-header (header-octets f n ++ more) ≡ Ok (header-of f n)
+  pub reads-header-back : bars-bit (kind (f .body)) (f .exchange) ≡ false → (more : List ℕ) → reads-header (header-octets f n ++ more) ≡ Ok (header-of f n)
   reads-header-back bars more =
       ap (λ h. of-kind (kind-of (getD h 0 0)) h) (header-back more)
       ∙ ap (λ o. of-kind o (values (header-fields f n))) (kind-back (kind (f .body)))
-      ∙ ap (λ x. unless (bars-exchange (kind (f .body)) x) (in-frame 12 0) (unless (no-call (f .call .0)) (in-frame 13 1) (Ok (record { kind = kind (f .body); exchange = x; call = f .call; bits = n })))) (bit-back (f .exchange))
+      ∙ ap (λ x. unless (bars-bit (kind (f .body)) x) (in-frame 12 0) (unless (no-call (f .call .0)) (in-frame 13 1) (Ok (record { kind = kind (f .body); exchange = x; call = f .call; bits = n })))) (bit-back (f .exchange))
       ∙ ap (λ b. unless b (in-frame 12 0) (unless (no-call (f .call .0)) (in-frame 13 1) (Ok (header-of f n)))) bars
       ∙ ap (λ b. unless b (in-frame 13 1) (Ok (header-of f n))) call
 
@@ -110,7 +110,7 @@ good x c (Notice PutOnHold) = (omega arith, (omega arith, refl))
 good x c (Notice Retrieved) = (omega arith, (omega arith, refl))
 good x c (Notice Released) = (omega arith, (omega arith, refl))
 
-module _ (f : Frame) (bars : bars-exchange (kind (f .body)) (f .exchange) ≡ false) (call : no-call (f .call .0) ≡ false) where
+module _ (f : Frame) (bars : bars-bit (kind (f .body)) (f .exchange) ≡ false) (call : no-call (f .call .0) ≡ false) where
   framed-back : (o : Result (ℕ × List ℕ) Fault) → Good (f .exchange) (f .call) (f .body) o → (bs : List ℕ) → framed f o ≡ Ok bs → reads bs ≡ Ok f
   framed-back (Err e) g bs p = let z : _≡_ {A = ℕ} 0 1 = cc in absurd (omega arith)
   framed-back (Ok pdu) g bs p =
@@ -124,6 +124,6 @@ module _ (f : Frame) (bars : bars-exchange (kind (f .body)) (f .exchange) ≡ fa
 
 pub reads-back : (f : Frame) (bs : List ℕ) → writes f ≡ Ok bs → reads bs ≡ Ok f
 reads-back f bs e =
-    let bars = passed (bars-exchange (kind (f .body)) (f .exchange)) (in-frame 12 0) _ bs e in
+    let bars = passed (bars-bit (kind (f .body)) (f .exchange)) (in-frame 12 0) _ bs e in
     let call = passed (no-call (f .call .0)) (in-frame 13 1) _ bs (bars .1) in
     framed-back f (bars .0) (call .0) (writes-pdu (f .body)) (good (f .exchange) (f .call) (f .body)) bs (call .1)

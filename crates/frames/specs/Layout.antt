@@ -26,9 +26,9 @@ abbrev pub no-call : ℕ → Bool
 no-call c = ltb c 1 || ltb 16383 c
 
 -- a notice has exchange bit 0
-abbrev pub bars-exchange : Kind → Bool → Bool
-bars-exchange Request x = false
-bars-exchange Answer x = false
-bars-exchange ClearRequest x = false
-bars-exchange ClearAnswer x = false
-bars-exchange Notice x = x
+abbrev pub bars-bit : Kind → Bool → Bool
+bars-bit Request x = false
+bars-bit Answer x = false
+bars-bit ClearRequest x = false
+bars-bit ClearAnswer x = false
+bars-bit Notice x = x

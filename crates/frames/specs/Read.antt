@@ -23,7 +23,7 @@ use Rattle.frames.specs.declared.reader.Header.{Header}
 use Rattle.frames.specs.Bits.{joined, octets, parts}
 use Rattle.frames.specs.Codes.{kind-of, ss-type, request-of, answer-of, cause-of, news-of}
 use Rattle.text.specs.Fault.{in-frame, after, unless}
-use Rattle.frames.specs.Layout.{header-widths, pdu-widths, pdu-octets, filling, no-call, bars-exchange}
+use Rattle.frames.specs.Layout.{header-widths, pdu-widths, pdu-octets, filling, no-call, bars-bit}
 
 -- the fields of the first four bytes
 abbrev pub header : List ℕ → List ℕ
@@ -33,7 +33,7 @@ abbrev pub of-kind : Option Kind → List ℕ → Result Header Fault
 of-kind None h = Err (in-frame 12 0)
 of-kind (Some k) h =
     unless (not (eqb (getD h 1 0) 0)) (in-frame 12 0)
-    (unless (bars-exchange k (eqb (getD h 2 0) 1)) (in-frame 12 0)
+    (unless (bars-bit k (eqb (getD h 2 0) 1)) (in-frame 12 0)
     (unless (no-call (getD h 3 0)) (in-frame 13 1)
     (Ok (record { kind = k; exchange = eqb (getD h 2 0) 1; call = record { 0 = getD h 3 0 }; bits = getD h 4 0 }))))
 

@@ -18,7 +18,7 @@ use Rattle.frames.specs.declared.writer.Pdu.{Pdu}
 use Rattle.frames.specs.Bits.{field, total, joined, parts}
 use Rattle.frames.specs.Codes.{kind, kind-number, ss-type, request-type, answer-type, cause-number, news-number}
 use Rattle.text.specs.Fault.{in-frame, unless}
-use Rattle.frames.specs.Layout.{pdu-octets, filling, no-call, bars-exchange}
+use Rattle.frames.specs.Layout.{pdu-octets, filling, no-call, bars-bit}
 use Rattle.text.specs.Octets.{held}
 
 abbrev pub bit : Bool → ℕ
@@ -67,7 +67,7 @@ framed f (Err e) = Err e
 -- what is written of a content, with the checks in their order
 abbrev pub writes : Frame → Result (List ℕ) Fault
 writes f =
-    unless (bars-exchange (kind (f .body)) (f .exchange)) (in-frame 12 0)
+    unless (bars-bit (kind (f .body)) (f .exchange)) (in-frame 12 0)
     (unless (no-call (f .call .0)) (in-frame 13 1)
     (framed f (writes-pdu (f .body))))
 

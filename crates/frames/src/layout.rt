@@ -1,6 +1,6 @@
 // The layout of frames: which fields stand one after the other, how wide each is, and what they may hold.
 ghost use mathlib.Core.Path.{_≡_};
-ghost use Rattle.frames.specs.Layout.{no-call, bars-exchange};
+ghost use Rattle.frames.specs.Layout.{no-call, bars-bit};
 use crate::codes::Kind;
 
 // Kind, three zero bits, exchange bit, call identifier, number of PDU bits.
@@ -17,8 +17,8 @@ pub(crate) fn no_call(call: u16) -> bool
 }
 
 // A notice has exchange bit 0.
-pub(crate) fn bars_exchange(kind: Kind, exchange: bool) -> bool
-    ensures { λ r. ⌜ r ≡ bars-exchange kind exchange ⌝ }
+pub(crate) fn bars_bit(kind: Kind, exchange: bool) -> bool
+    ensures { λ r. ⌜ r ≡ bars-bit kind exchange ⌝ }
 {
     match kind {
         Kind::Notice => exchange,

@@ -20,7 +20,7 @@ use crate::content::Operation;
 use crate::content::Verdict;
 use crate::layout::HEADER;
 use crate::layout::PDU;
-use crate::layout::bars_exchange;
+use crate::layout::bars_bit;
 use crate::layout::no_call;
 use crate::numbers::NUMBERS;
 use text::Fault;
@@ -59,7 +59,7 @@ fn read_header(bytes: &[u8]) -> Result<Header, Fault>
         return Err(Fault::in_frame(12, 0));
     };
     let exchange = exchange == 1;
-    if zero != 0 || bars_exchange(kind, exchange) {
+    if zero != 0 || bars_bit(kind, exchange) {
         return Err(Fault::in_frame(12, 0));
     }
     if no_call(call) {

@@ -24,7 +24,7 @@ use crate::content::Frame;
 use crate::content::News;
 use crate::content::Operation;
 use crate::content::Verdict;
-use crate::layout::bars_exchange;
+use crate::layout::bars_bit;
 use crate::layout::no_call;
 use crate::numbers::NUMBERS;
 use text::Fault;
@@ -153,7 +153,7 @@ fn write_header(frame: &Frame, bits: u16) -> Octets
 fn encode(frame: &Frame) -> Result<Octets, Fault>
     ensures { λ r. ⌜ told-octets r ≡ writes (now (frame .entry)) ⌝ }
 {
-    if bars_exchange(Kind::of_body(frame.body), frame.exchange) {
+    if bars_bit(Kind::of_body(frame.body), frame.exchange) {
         return Err(Fault::in_frame(12, 0));
     }
     if no_call(frame.call.0) {

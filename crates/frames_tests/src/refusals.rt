@@ -15,12 +15,13 @@ use text::read_text;
 
 fn refusal(exchange: bool, call: u16, body: Body) -> Option<Fault> {
     let call = CallId(call);
-    write(&Frame {
-        exchange,
-        call,
-        body,
-    })
-    .err()
+    write(
+        &Frame {
+            exchange,
+            call,
+            body,
+        },
+    ).err()
 }
 
 #[test]
@@ -34,7 +35,10 @@ fn contents_without_a_frame() -> Result<(), Fail> {
     check_eq(refusal(false, 0, notice), Some(Fault::in_frame(13, 1)))?;
     check_eq(refusal(true, 16_383, listed), None)?;
     check_eq(refusal(true, 16_384, listed), Some(Fault::in_frame(13, 1)))?;
-    check_eq(refusal(true, 65_535, unlisted), Some(Fault::in_frame(13, 1)))?;
+    check_eq(
+        refusal(true, 65_535, unlisted),
+        Some(Fault::in_frame(13, 1)),
+    )?;
     check_eq(refusal(true, 1, unlisted), Some(Fault::in_frame(17, 3)))
 }
 
@@ -45,7 +49,11 @@ fn causes_that_are_not_listed() -> Result<(), Fail> {
         let body = Body::Answer(Operation::Hold, Verdict::Declined(cause));
         check_eq(refusal(false, 7, body), Some(Fault::in_frame(17, 3)))?;
     }
-    let retrieve = [Cause::NotSubscribed, Cause::LimitReached, Cause::AlreadyOnHold];
+    let retrieve = [
+        Cause::NotSubscribed,
+        Cause::LimitReached,
+        Cause::AlreadyOnHold,
+    ];
     for cause in retrieve {
         let body = Body::Answer(Operation::Retrieve, Verdict::Declined(cause));
         check_eq(refusal(false, 7, body), Some(Fault::in_frame(17, 3)))?;

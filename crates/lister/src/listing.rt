@@ -4,14 +4,14 @@ ghost use Rattle.std.specs.Of.String.{string-bytes};
 ghost use Rattle.std.specs.Vec.{made};
 ghost use Rattle.text.specs.Text.{told-octets};
 ghost use Rattle.lister.specs.Listing.{written-anew, accepted, refused-at, listing};
-use text::Fault;
-use text::Octets;
 use frames::read;
-use text::read_text;
 use frames::write;
-use text::write_text;
 use std::alloc::AllocError;
 use std::alloc::Global;
+use text::Fault;
+use text::Octets;
+use text::read_text;
+use text::write_text;
 
 // The frame that a line tells, written anew from its content.
 // Faults: those of `read_text`, then those of `read`.
