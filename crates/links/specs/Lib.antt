@@ -1,0 +1,9 @@
+pub mod Checks
+pub mod Faulty
+pub mod Line
+pub mod Meaning
+pub mod Packing
+pub mod Queue
+pub mod Ring
+pub mod Store
+pub mod Thinned

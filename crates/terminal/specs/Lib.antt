@@ -1,0 +1,5 @@
+pub mod Arriving
+pub mod Asking
+pub mod Calls
+pub mod Laws
+pub mod State
