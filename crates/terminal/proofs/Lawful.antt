@@ -4,7 +4,7 @@ use mathlib.Core.Bool.{Bool, true, false, cond, _&&_, Bool·beq}
 use mathlib.Core.List.{List, [], _∷_}
 use Prim.Native.Nat.{ℕ, _<_, _≤_}
 use native.Mathlib.Omega.{arith}
-use borrow.Author.Tests.{eqb-true, eqb-false, ltb-true, ne-eqb}
+use borrow.Author.Tests.{eqb-true, ltb-true, ne-eqb}
 use lib.Dec.{eqb, ltb}
 use Rattle.std.specs.Options.{isSome}
 use Rattle.std.specs.declared.option.Option.{Option}
@@ -21,10 +21,10 @@ use Rattle.frames.specs.declared.content.News.{News}
 use Rattle.frames.specs.declared.content.News.the-variants.{PutOnHold, Retrieved, Released}
 use Rattle.links.specs.Meaning.{TakeAnswer}
 use Rattle.text.specs.declared.fault.Fault.{Fault}
-use Rattle.terminal.specs.Arriving.{asked-by, reply-of, same-ask, counts, Effect, heard, answered, effect-of, told-of, state-of, settled, after-cause, informed, received, receives, Receiving}
+use Rattle.terminal.specs.Arriving.{asked-by, reply-of, same-ask, counts, heard, answered, effect-of, told-of, state-of, settled, after-cause, informed, received, receives, Receiving}
 use Rattle.terminal.specs.Arriving.Effect.{stale, closed}
-use Rattle.terminal.specs.Calls.{rising-from, rising, find, mark, mark-other, change, own-to, other-to, without}
-use Rattle.terminal.specs.Laws.{own-of, shown, grants, grants-by, Lawful}
+use Rattle.terminal.specs.Calls.{rising-from, rising, find, mark, mark-other, own-to, other-to, without}
+use Rattle.terminal.specs.Laws.{own-of, shown, grants-by, Lawful}
 use Rattle.terminal.specs.State.{Model}
 use Rattle.terminal.specs.declared.call.Call.{Call}
 use Rattle.terminal.specs.declared.request.Ask.{Ask}

@@ -2,7 +2,7 @@
 use mathlib.Core.Path.{_≡_, refl, sym, ap, subst, _∙_}
 use mathlib.Core.Bool.{Bool, true, false, cond, _&&_, _||_}
 use mathlib.Core.List.{List, [], _∷_, _++_}
-use Prim.Native.Nat.{ℕ, zero, suc, _+_, _<_, _≤_}
+use Prim.Native.Nat.{ℕ, suc, _+_, _<_, _≤_}
 use native.Mathlib.Numerals.{add-one}
 use native.Mathlib.Omega.{arith}
 use borrow.Author.Tests.{eq-eqb, ne-eqb, eqb-true, ltb-true, ltb-false, lt-ltb, leb-true, leb-false, le-leb}
@@ -13,10 +13,9 @@ use Rattle.std.specs.declared.option.Option.{Option}
 use Rattle.std.specs.declared.option.Option.the-variants.{Some, None}
 use Rattle.std.proofs.shelf.Lists.{drop-more, drop-all}
 use Rattle.terminal.specs.Calls.{rising-from, known, place, find, change, without}
-use Rattle.std.specs.declared.result.Result.the-variants.{Ok, Err}
+use Rattle.std.specs.declared.result.Result.the-variants.{Ok}
 use Rattle.frames.specs.declared.content.CallId.{CallId}
 use Rattle.text.specs.Fault.{in-terminal, unless}
-use Rattle.text.specs.declared.fault.Fault.{Fault}
 use Rattle.terminal.specs.State.{Model, connect-checked}
 use Rattle.terminal.specs.declared.call.Call.{Call}
 use Rattle.terminal.specs.declared.request.Request.{Request}

@@ -7,7 +7,7 @@ use borrow.Author.Tests.{lt-ltb, le-leb}
 use Rattle.std.specs.Options.{isSome}
 use Rattle.std.specs.declared.option.Option.{Option}
 use Rattle.std.specs.declared.option.Option.the-variants.{Some, None}
-use Rattle.std.specs.declared.result.Result.the-variants.{Ok, Err}
+use Rattle.std.specs.declared.result.Result.the-variants.{Ok}
 use Rattle.frames.specs.declared.content.CallId.{CallId}
 use Rattle.text.specs.Fault.{in-terminal, unless}
 use Rattle.terminal.specs.Asking.{call-checked, request-checked, opening}

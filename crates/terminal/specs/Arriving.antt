@@ -1,11 +1,10 @@
 -- What a frame does that arrives at a terminal. Assumes nothing.
 use mathlib.Core.Path.{_≡_}
 use mathlib.Core.Bool.{Bool, true, false, cond, not, _&&_, Bool·beq}
-use mathlib.Core.List.{List, [], _∷_}
+use mathlib.Core.List.{List}
 use Prim.Native.Nat.{ℕ}
 use lib.Dec.{eqb}
 use lib.ListN.{take, replicate}
-use Rattle.std.specs.Options.{isSome}
 use Rattle.std.specs.declared.option.Option.{Option}
 use Rattle.std.specs.declared.option.Option.the-variants.{Some, None}
 use Rattle.std.specs.declared.result.Result.{Result}
@@ -37,15 +36,17 @@ use Rattle.terminal.specs.declared.told.Received.the-variants.{Nothing, Stale,
 use Rattle.terminal.specs.declared.told.Reply.{Reply}
 use Rattle.terminal.specs.declared.told.Reply.the-variants.{Granted, Declined, Cleared}
 
--- what is asked of, and what is told by, an answer to an operation
+-- the request that an answer to an operation answers
 abbrev pub asked-by : Operation → Ask
 asked-by operation.Hold = Hold
 asked-by operation.Retrieve = Retrieve
 
+-- what a verdict tells of it
 abbrev pub reply-of : Verdict → Reply
 reply-of verdict.Granted = Granted
 reply-of (verdict.Declined c) = Declined c
 
+-- whether two requests ask the same
 abbrev pub same-ask : Ask → Ask → Bool
 same-ask Hold Hold = true
 same-ask Hold Retrieve = false
@@ -72,6 +73,7 @@ pub data Effect : Type 0 where
   -- the answer to the open request
   closed : Ask → CallId → Reply → Effect
 
+-- an answer while a request is open, with the exchange bit of that
 abbrev pub answered : Request → Bool → Ask → Frame → Reply → Effect
 answered q x k f r = cond (counts q x k f) (closed k (f .call) r) stale
 
@@ -96,7 +98,7 @@ effect-of m f (Some q) ClearAnswer = answered q (m .exchange) Clear f Cleared
 abbrev pub effect : Model → Frame → Effect
 effect m f = effect-of m f (m .request) (f .body)
 
--- what is told of it
+-- what is told of an effect
 abbrev pub told-of : Effect → Result Received Fault
 told-of refused = Err (in-terminal 26)
 told-of stale = Ok Stale
@@ -134,7 +136,7 @@ informed Released n cs = without n cs
 abbrev pub shut : Model → Model
 shut m = record { calls = m .calls; last = m .last; request = None; exchange = not (m .exchange) }
 
--- the state after it
+-- the state after an effect
 abbrev pub state-of : Effect → Model → Model
 state-of refused m = m
 state-of stale m = m

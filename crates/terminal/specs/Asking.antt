@@ -1,7 +1,7 @@
 -- Requesting and ticking. Assumes nothing.
 use mathlib.Core.Path.{_≡_}
 use mathlib.Core.Bool.{Bool, true, false, cond, not}
-use mathlib.Core.List.{List, [], _∷_}
+use mathlib.Core.List.{List}
 use Prim.Native.Nat.{ℕ, _+_, _-_}
 use lib.Dec.{eqb, leb}
 use Rattle.std.specs.Options.{isSome}
@@ -28,7 +28,7 @@ use Rattle.terminal.specs.declared.request.Request.{Request}
 use Rattle.terminal.specs.declared.told.Ticked.{Ticked}
 use Rattle.terminal.specs.declared.told.Ticked.the-variants.{Idle, Waiting, Repeated}
 
--- what a request's frame says
+-- the body of a request's frame, and the whole of what it says
 abbrev pub body-for : Ask → Body
 body-for Hold = request-body operation.Hold
 body-for Retrieve = request-body operation.Retrieve
@@ -43,6 +43,7 @@ pointless Hold own = own
 pointless Retrieve own = not own
 pointless Clear own = false
 
+-- whether something may be asked of the call that was found
 abbrev pub call-checked : Ask → Option Call → Result Unit Fault
 call-checked k None = Err (in-terminal 21)
 call-checked k (Some c) = unless (pointless k (c .own)) (in-terminal 23) (Ok tt)
@@ -59,7 +60,7 @@ opening k c = record { ask = k; call = c; countdown = 20; repeats = 0 }
 abbrev pub with-request : Option Request → Model → Model
 with-request q m = record { calls = m .calls; last = m .last; request = q; exchange = m .exchange }
 
--- the state after requesting
+-- the state after requesting; a refusal changes nothing
 abbrev pub opens : Result Unit Fault → Model → Ask → CallId → Model
 opens (Ok u) m k c = with-request (Some (opening k c)) m
 opens (Err e) m k c = m

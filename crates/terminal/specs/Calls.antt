@@ -1,5 +1,5 @@
 -- The calls that a terminal holds. Assumes nothing.
-use mathlib.Core.Bool.{Bool, true, false, cond, _&&_}
+use mathlib.Core.Bool.{Bool, true, cond, _&&_}
 use mathlib.Core.List.{List, [], _∷_}
 use Prim.Native.Nat.{ℕ, _+_}
 use lib.Dec.{eqb, ltb, leb}
@@ -13,6 +13,7 @@ abbrev pub rising-from : ℕ → ℕ → List Call → Bool
 rising-from n last [] = leb n last
 rising-from n last (c ∷ cs) = ltb n (c .id .0) && rising-from (c .id .0) last cs
 
+-- a table's calls: identifiers above 0 that rise, to the last accepted at most
 abbrev pub rising : ℕ → List Call → Bool
 rising last cs = rising-from 0 last cs
 
@@ -36,6 +37,7 @@ abbrev pub change : (Call → Call) → ℕ → List Call → List Call
 change f n [] = []
 change f n (c ∷ cs) = cond (eqb (c .id .0) n) (f c ∷ cs) (c ∷ change f n cs)
 
+-- a call with its own mark, or the other party's, set or dropped
 abbrev pub own-to : Bool → Call → Call
 own-to b c = record { id = c .id; own = b; other = c .other }
 

@@ -21,7 +21,7 @@ use Rattle.terminal.specs.declared.told.Received.the-variants.{Nothing, Stale,
 use Rattle.terminal.specs.declared.told.Reply.{Reply}
 use Rattle.terminal.specs.declared.told.Reply.the-variants.{Granted, Declined, Cleared}
 
--- the own mark of a call that is held
+-- the own mark of a call, if it is held
 abbrev pub own-of : Option Call → Option Bool
 own-of None = None
 own-of (Some c) = Some (c .own)

@@ -1,12 +1,12 @@
 -- The state of a terminal, and connecting. Assumes nothing.
-use mathlib.Core.Bool.{Bool, true, false, _||_}
+use mathlib.Core.Bool.{Bool, false, _||_}
 use mathlib.Core.List.{List, [], _∷_, _++_}
 use Prim.Native.Nat.{ℕ}
 use lib.Dec.{leb}
 use lib.ListN.{length}
 use Rattle.std.specs.Of.Vec.{vec-items}
 use Rattle.std.specs.declared.option.Option.{Option}
-use Rattle.std.specs.declared.option.Option.the-variants.{Some, None}
+use Rattle.std.specs.declared.option.Option.the-variants.{None}
 use Rattle.std.specs.declared.result.Result.{Result}
 use Rattle.std.specs.declared.result.Result.the-variants.{Ok, Err}
 use Rattle.frames.specs.Layout.{no-call}
@@ -24,6 +24,7 @@ pub record Model : Type 0 where
   pub request : Option Request
   pub exchange : Bool
 
+-- the state that a terminal has
 abbrev pub model : Terminal → Model
 model t = record { calls = vec-items (t .table .calls); last = t .last; request = t .request; exchange = t .exchange }
 
@@ -46,7 +47,7 @@ connect-checked m c =
 abbrev pub unmarked : CallId → Call
 unmarked c = record { id = c; own = false; other = false }
 
--- the state after it: the call stands last, and its identifier is the last accepted
+-- the state after connecting: the call stands last, and its identifier is the last accepted; a refusal changes nothing
 abbrev pub connects : Result Unit Fault → Model → CallId → Model
 connects (Ok u) m c = record { calls = m .calls ++ unmarked c ∷ []; last = c .0; request = m .request; exchange = m .exchange }
 connects (Err e) m c = m

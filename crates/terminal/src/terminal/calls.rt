@@ -4,7 +4,6 @@ ghost use mathlib.Core.Bool.{true};
 ghost use Prim.Native.Nat.{_≤_};
 ghost use lib.ListN.{length};
 ghost use Rattle.std.specs.Vec.{made};
-ghost use Rattle.std.specs.Of.Vec.{vec-items};
 ghost use Rattle.terminal.specs.Calls.{rising, mark, mark-other, without};
 ghost use Rattle.terminal.specs.State.{model, fresh, with-calls, connect-checked, connected};
 use super::Terminal;

@@ -1,6 +1,6 @@
 // Receiving a frame.
 ghost use mathlib.Core.Path.{_≡_};
-ghost use Rattle.terminal.specs.Arriving.{counts, answered, heard, effect, told-of, state-of, informed, settled, shut, Pulling, Receiving};
+ghost use Rattle.terminal.specs.Arriving.{counts, answered, heard, effect, told-of, state-of, settled, shut, Pulling, Receiving};
 ghost use Rattle.terminal.specs.Calls.{find};
 ghost use Rattle.terminal.specs.Laws.{Lawful};
 ghost use Rattle.terminal.specs.State.{model, with-calls};

@@ -1,6 +1,6 @@
 -- A call that passes the checks keeps the identifiers rising and finds room.
 use native.Mathlib.Omega.{arith}
-use mathlib.Core.Path.{sym, ap, _∙_}
+use mathlib.Core.Path.{ap, _∙_}
 use Rattle.std.specs.Of.Vec.{vec-items}
 use Rattle.terminal.specs.Calls.{rising}
 use Rattle.terminal.specs.State.{model, unmarked}
