@@ -21,6 +21,7 @@ short m = ltb (length m) 32
 abbrev pub unfit-memory : ℕ → Bool
 unfit-memory n = ltb n 64 || ltb 4096 n
 
+-- what each check answers
 abbrev pub frame-checked : ℕ → List ℕ → Result Unit Fault
 frame-checked longest f = unless (unfit longest f) (in-link 41) (Ok tt)
 

@@ -50,6 +50,7 @@ module _ {X : Type 0} (sends : X → List ℕ → X → SendAnswer → Type 0) w
   Fit-or-not true a f b r = (b ≡ a) × (r ≡ Err (in-link 41))
   Fit-or-not false a f b r = Counted a f b r
 
+  -- what a send does
   abbrev pub Faulted : ℕ → Faulty X → List ℕ → Faulty X → SendAnswer → Type 0
   Faulted longest a f b r = Fit-or-not (unfit longest f) a f b r
 

@@ -16,5 +16,6 @@ abbrev pub after-line : List ℕ → List ℕ
 after-line [] = []
 after-line (b ∷ bs) = cond (eqb b 10) bs (after-line bs)
 
+-- the packing of a line link
 abbrev pub in-lines : Packing
 in-lines = record { longest = 32; cost = λ f. 2 * length f + 1; written = λ f. text f ++ 10 ∷ []; first = λ bs. bytes (line bs); after = after-line }

@@ -8,6 +8,7 @@ use lib.ListN.{length}
 use Rattle.links.specs.declared.queue.ByteQueue.{ByteQueue}
 use Rattle.links.specs.Queue.{held}
 
+-- one way to write frames as bytes
 pub record Packing : Type 0 where
   -- the bytes of the longest frame
   pub longest : ℕ
@@ -43,7 +44,7 @@ module _ (p : Packing) where
   pack [] = []
   pack (f ∷ w) = p .written f ++ pack w
 
-  -- a frame of 1 byte to the longest
+  -- a frame of 1 byte to the longest, and frames that all are
   abbrev pub sound-frame : List ℕ → Bool
   sound-frame f = (ltb 0 (length f) && leb (length f) (p .longest)) && octets f
 

@@ -17,6 +17,7 @@ round m h n = take n (drop h (m ++ m))
 abbrev pub cells : ByteQueue → List ℕ
 cells q = take (q .size) (vec-items (q .memory))
 
+-- the bytes that wait
 abbrev pub held : ByteQueue → List ℕ
 held q = round (cells q) (q .head) (q .used)
 

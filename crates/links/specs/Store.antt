@@ -31,6 +31,7 @@ abbrev pub Kept-by-send : SendAnswer → ByteQueue → ByteQueue → Type 0
 Kept-by-send (Ok u) a b = Unit
 Kept-by-send (Err e) a b = b ≡ a
 
+-- a send of f, from the queue a to the queue b, and its answer
 pub record Stores (p : Packing) (a : ByteQueue) (f : List ℕ) (b : ByteQueue) (r : SendAnswer) : Type 0 where
   pub answer : r ≡ send-answer p a f
   pub waits : frames p b ≡ after-send r (frames p a) f
@@ -68,6 +69,7 @@ Kept-by-take (Err e) a b = b ≡ a
 Kept-by-take (Ok None) a b = b ≡ a
 Kept-by-take (Ok (Some n)) a b = Unit
 
+-- a take into the memory m, which then is n, and its answer
 pub record Hands-out (p : Packing) (a : ByteQueue) (m : List ℕ) (b : ByteQueue) (n : List ℕ) (r : TakeAnswer) : Type 0 where
   pub answer : r ≡ take-answer m (frames p a)
   pub waits : frames p b ≡ after-take r (frames p a)
