@@ -5,8 +5,8 @@ use Rattle.books.specs.Tables.{held_one}
 use Rattle.books.proofs.Blanks.{blank_mark}
 use Rattle.books.proofs.counts.count_held.Goals as goal
 
-pub overflow-add-n : goal.overflow-add-n
-overflow-add-n c = omega arith
+pub overflow_add-n : goal.overflow_add-n
+overflow_add-n c = omega arith
 
 pub loop-mark-preserved : goal.loop-mark-preserved
 loop-mark-preserved c =

@@ -5,8 +5,8 @@ use Rattle.books.specs.Tables.{wrong_one}
 use Rattle.books.proofs.Blanks.{blank_entry}
 use Rattle.books.proofs.counts.count_wrong.Goals as goal
 
-pub overflow-add-n : goal.overflow-add-n
-overflow-add-n c = omega arith
+pub overflow_add-n : goal.overflow_add-n
+overflow_add-n c = omega arith
 
 pub loop-line-preserved : goal.loop-line-preserved
 loop-line-preserved c =

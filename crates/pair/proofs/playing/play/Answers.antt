@@ -5,8 +5,8 @@ use Rattle.pair.proofs.playing.play.Goals as goal
 
 pub loop-call-init : goal.loop-call-init
 loop-call-init g c =
-    let none = c.in-ok-log.ensures.items in
-    (since_none g.R.Register.limit g.U.Link.waits g.D.Link.waits c.args.pair.now (vec_items c.in-ok-log.log) none, (refl, refl), ap (map call_of) none, search rules, search rules)
+    let none = c.in_ok-log.ensures.items in
+    (since_none g.R.Register.limit g.U.Link.waits g.D.Link.waits c.args.pair.now (vec_items c.in_ok-log.log) none, (refl, refl), ap (map call_of) none, search rules, search rules)
 
 pub loop-call-preserved : goal.loop-call-preserved
 loop-call-preserved g c =

@@ -6,7 +6,7 @@ pub returns : goal.returns
 returns c =
     let p = c.new-2.ensures in
     record {
-      view = fresh_view c.new-2.result c.in-ok-switch.switch c.in-ok-terminal.terminal c.in-ok-up.up c.in-ok-down.down c.args.setting.channels
-          p.switch p.terminal p.up p.down c.in-ok-switch.ensures c.in-ok-terminal.ensures c.in-ok-up.ensures c.in-ok-down.ensures;
+      view = fresh_view c.new-2.result c.in_ok-switch.switch c.in_ok-terminal.terminal c.in_ok-up.up c.in_ok-down.down c.args.setting.channels
+          p.switch p.terminal p.up p.down c.in_ok-switch.ensures c.in_ok-terminal.ensures c.in_ok-up.ensures c.in_ok-down.ensures;
       user = p.user;
     }

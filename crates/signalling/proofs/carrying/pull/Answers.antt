@@ -2,9 +2,9 @@
 use Rattle.std.proofs.Common.{replicate, Some, None, Ok, refl, subst, rules}
 use Rattle.signalling.proofs.carrying.pull.Goals as goal
 
-pub returns-in-default : goal.returns-in-default
-returns-in-default g c = record { mem = c.take.new.out; length = None; took = search rules; says = refl }
+pub returns-in_default : goal.returns-in_default
+returns-in_default g c = record { mem = c.take.new.out; length = None; took = search rules; says = refl }
 
 pub returns : goal.returns
 returns g c =
-    record { mem = c.take.new.out; length = Some c.in-Some.count; took = subst (λ x. g.L.Link.takes c.args.link.now (replicate 32 0) c.take.new.self c.take.new.out (Ok x)) c.in-Some.is c.in-ok-count.ensures; says = c.read-first.ensures }
+    record { mem = c.take.new.out; length = Some c.in-Some.count; took = subst (λ x. g.L.Link.takes c.args.link.now (replicate 32 0) c.take.new.self c.take.new.out (Ok x)) c.in-Some.is c.in_ok-count.ensures; says = c.read_first.ensures }

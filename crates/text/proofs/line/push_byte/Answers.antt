@@ -9,8 +9,8 @@ returns c =
     let small : b < 256 = omega arith in
     let high : get_or c.digits.result 0 0 ≡ digit (b / 16) = ap (λ l. get_or l 0 0) c.digits.ensures in
     let low : get_or c.digits.result 1 0 ≡ digit (b % 16) = ap (λ l. get_or l 1 0) c.digits.ensures in
-    let first = c.in-ok-push.ensures in
-    let second = c.in-ok-push-2.ensures in
+    let first = c.in_ok-push.ensures in
+    let second = c.in_ok-push-2.ensures in
     let start = string_bytes c.args.out.now in
     second.bytes
     ∙ ap (λ l. string_bytes c.push.new.self ++ l) (second.ascii (omega (arith, low, digit_ascii (b % 16) (omega arith))) ∙ ap (λ d. d ∷ []) low)

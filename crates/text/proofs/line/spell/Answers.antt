@@ -5,7 +5,7 @@ use Rattle.text.proofs.Lines.{writing_next}
 use Rattle.text.proofs.line.spell.Goals as goal
 
 pub loop-b-preserved : goal.loop-b-preserved
-loop-b-preserved c = writing_next c.args.bytes.now c.loop-b.b-index _ _ c.loop-b-test.true c.loop-b.invariant c.in-ok-push-byte.ensures
+loop-b-preserved c = writing_next c.args.bytes.now c.loop-b.b-index _ _ c.loop-b-test.true c.loop-b.invariant c.in_ok-push_byte.ensures
 
 pub returns : goal.returns
 returns c =

@@ -10,7 +10,7 @@ loop-length-init c = begun c.args.records.now c.args.user c.args.line.now c.requ
 
 pub returns-in-End : goal.returns-in-End
 returns-in-End c =
-    let done = at_end c.args.records.now c.args.user c.loop-length.length c.loop-length.line c.loop-length.last c.take-step.new.line c.args.line.now c.in-End.ring c.loop-length.invariant (omega arith) c.loop-length-test.true (omega (arith, length-set c.args.line.now 0 c.args.user, c.requires.places)) c.in-End.ensures.outcome c.in-End.ensures.after in
+    let done = at_end c.args.records.now c.args.user c.loop-length.length c.loop-length.line c.loop-length.last c.take_step.new.line c.args.line.now c.in-End.ring c.loop-length.invariant (omega arith) c.loop-length-test.true (omega (arith, length-set c.args.line.now 0 c.args.user, c.requires.places)) c.in-End.ensures.outcome c.in-End.ensures.after in
     record { outcome = done.0; after = done.1 }
 
 pub loop-length-preserved : goal.loop-length-preserved
@@ -21,5 +21,5 @@ loop-length-preserved c =
 
 pub returns : goal.returns
 returns c =
-    let done = at_full c.args.records.now c.args.user c.loop-length.length c.loop-length.line c.loop-length.last c.args.line.now c.is-some.result c.next_in_line.result c.requires.short c.loop-length.invariant (omega arith) (omega (arith, length-set c.args.line.now 0 c.args.user, c.requires.places)) c.is-some.ensures c.next_in_line.ensures in
+    let done = at_full c.args.records.now c.args.user c.loop-length.length c.loop-length.line c.loop-length.last c.args.line.now c.is_some.result c.next_in_line.result c.requires.short c.loop-length.invariant (omega arith) (omega (arith, length-set c.args.line.now 0 c.args.user, c.requires.places)) c.is_some.ensures c.next_in_line.ensures in
     record { outcome = done.0; after = done.1 }

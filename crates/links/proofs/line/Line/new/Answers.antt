@@ -5,8 +5,8 @@ use Rattle.links.specs.Packings.{unpack_none}
 use Rattle.links.proofs.Lines.{lawful}
 use Rattle.links.proofs.line.Line.new.Goals as goal
 
-pub invariant-of-result : goal.invariant-of-result
-invariant-of-result c =
+pub invariant_of-result : goal.invariant_of-result
+invariant_of-result c =
     let empty = c.new-queue.ensures.empty in
     let none = ap (unpack in_lines) empty ∙ unpack_none in_lines lawful in
     (ap (pack in_lines) none ∙ sym empty, (ap (sound in_lines) none, tt))

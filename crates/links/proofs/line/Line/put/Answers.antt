@@ -9,17 +9,17 @@ put-requires c =
     let me = c.args.self.now in
     record { fits = omega (arith, c.requires.room, costs_used in_lines lawful me.queue me.packed me.framed, me.queue.fits) }
 
-pub invariant-of-self : goal.invariant-of-self
-invariant-of-self c =
+pub invariant_of-self : goal.invariant_of-self
+invariant_of-self c =
     let me = c.args.self.now in (
-      put_is_packed in_lines lawful me.queue me.packed me.framed c.args.frame.now c.put.new.queue c.requires.fit c.type-inv.frame c.put.ensures.held,
-      (put_is_sound in_lines lawful me.queue me.packed me.framed c.args.frame.now c.put.new.queue c.requires.fit c.type-inv.frame c.put.ensures.held, tt),
+      put_is_packed in_lines lawful me.queue me.packed me.framed c.args.frame.now c.put.new.queue c.requires.fit c.type_inv.frame c.put.ensures.held,
+      (put_is_sound in_lines lawful me.queue me.packed me.framed c.args.frame.now c.put.new.queue c.requires.fit c.type_inv.frame c.put.ensures.held, tt),
     )
 
 pub returns : goal.returns
 returns c =
     let me = c.args.self.now in
     record {
-      waits = put_waits in_lines lawful me.queue me.packed me.framed c.args.frame.now c.put.new.queue c.requires.fit c.type-inv.frame c.put.ensures.held;
+      waits = put_waits in_lines lawful me.queue me.packed me.framed c.args.frame.now c.put.new.queue c.requires.fit c.type_inv.frame c.put.ensures.held;
       memory = c.put.ensures.memory;
     }

@@ -29,8 +29,8 @@ bounds-out-n c =
     let b = subst (Begins in_lines) c.pop-high.ensures.held c.requires.begins in
     omega (arith, below _ _ _ _ _ _ b c.loop-high.invariant.0 c.loop-high-test.true, c.loop-high.auto.out, c.requires.room)
 
-pub overflow-add-n : goal.overflow-add-n
-overflow-add-n c =
+pub overflow_add-n : goal.overflow_add-n
+overflow_add-n c =
     let b = subst (Begins in_lines) c.pop-high.ensures.held c.requires.begins in
     omega (arith, below _ _ _ _ _ _ b c.loop-high.invariant.0 c.loop-high-test.true)
 

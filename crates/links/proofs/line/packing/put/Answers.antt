@@ -5,7 +5,7 @@ use Rattle.links.proofs.line.packing.put.Goals as goal
 
 pub loop-b-preserved : goal.loop-b-preserved
 loop-b-preserved c = (
-  put_more c.args.frame.now (held c.args.queue.now) (held c.loop-b.queue) (held c.put-digits.new.queue) c.loop-b.b-index c.loop-b-test.true c.loop-b.invariant.0 c.put-digits.ensures.held,
+  put_more c.args.frame.now (held c.args.queue.now) (held c.loop-b.queue) (held c.put_digits.new.queue) c.loop-b.b-index c.loop-b-test.true c.loop-b.invariant.0 c.put_digits.ensures.held,
   search rules,
   search rules,
 )

@@ -8,10 +8,10 @@ pub returns : goal.returns
 returns c =
     let me = c.args.self.now in
     let long = length_cells me in
-    let sp = subst (Spot (cells me) me.head me.used) (sym c.place-after-at.ensures) (place_spot me me.used (omega arith) (omega (arith, c.requires))) in
+    let sp = subst (Spot (cells me) me.head me.used) (sym c.place_after-at.ensures) (place_spot me me.used (omega arith) (omega (arith, c.requires))) in
     record {
       held =
-          ap (λ m. round m me.head (me.used + 1)) (take_set me.size (vec_items me.memory) c.place-after-at.result c.args.byte)
+          ap (λ m. round m me.head (me.used + 1)) (take_set me.size (vec_items me.memory) c.place_after-at.result c.args.byte)
           ∙ pushed (cells me) me.head me.used _ c.args.byte (omega (arith, long, me.start)) (omega (arith, long, c.requires)) sp;
       used = search rules;
       memory = search rules;

@@ -12,8 +12,8 @@ get-n-requires c =
     let long = ltb-false (length c.args.out.now) 32 c.requires in
     record { begins = (first_frame in_ring lawful me.queue me.packed me.framed some).begins; room = long }
 
-pub invariant-of-self : goal.invariant-of-self
-invariant-of-self c =
+pub invariant_of-self : goal.invariant_of-self
+invariant_of-self c =
     let me = c.args.self.now in
     let some : 0 < me.queue.used = search rules in (
       get_is_packed in_ring lawful me.queue me.packed me.framed some c.get-n.new.queue c.get-n.ensures.held,
@@ -26,8 +26,8 @@ returns c =
     let some : 0 < me.queue.used = search rules in
     get_hands_out in_ring lawful me.queue me.packed me.framed some c.get-n.new.queue c.get-n.ensures.held c.args.out.now c.get-n.new.out c.get-n.result c.requires c.get-n.ensures.long c.get-n.ensures.out c.get-n.ensures.memory
 
-pub returns-then-is-empty : goal.returns-then-is-empty
-returns-then-is-empty c =
+pub returns-then-is_empty : goal.returns-then-is_empty
+returns-then-is_empty c =
     let me = c.args.self.now in
-    let none = eqb-true me.queue.used 0 (sym c.if-is-empty.ensures) in
+    let none = eqb-true me.queue.used 0 (sym c.if-is_empty.ensures) in
     hands_nothing in_ring lawful me.queue me.packed me.framed c.args.out.now c.requires none

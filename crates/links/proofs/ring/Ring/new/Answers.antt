@@ -5,8 +5,8 @@ use Rattle.links.specs.Packings.{unpack_none}
 use Rattle.links.proofs.Rings.{lawful}
 use Rattle.links.proofs.ring.Ring.new.Goals as goal
 
-pub invariant-of-result : goal.invariant-of-result
-invariant-of-result c =
+pub invariant_of-result : goal.invariant_of-result
+invariant_of-result c =
     let empty = c.new-queue.ensures.empty in
     let none = ap (unpack in_ring) empty ∙ unpack_none in_ring lawful in
     (ap (pack in_ring) none ∙ sym empty, (ap (sound in_ring) none, tt))

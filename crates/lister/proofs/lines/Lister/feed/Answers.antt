@@ -9,7 +9,7 @@ loop-byte-preserved c =
     (progress c.loop-byte.self (string_bytes c.loop-byte.out))
     (progress c.step.new.self (string_bytes c.step.new.out))
     (fed (progress c.args.self.now (string_bytes c.args.out.now)) c.args.chunk.now)
-    c.loop-byte-test.true c.in-ok-step.ensures c.loop-byte.invariant
+    c.loop-byte-test.true c.in_ok-step.ensures c.loop-byte.invariant
 
 pub returns : goal.returns
 returns c =

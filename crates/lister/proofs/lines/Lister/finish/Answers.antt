@@ -4,14 +4,14 @@ use Rattle.lister.specs.Steps.{progress, finished, Finishes}
 use Rattle.lister.proofs.Inputs.{finishes}
 use Rattle.lister.proofs.lines.Lister.finish.Goals as goal
 
-pub returns-then-is-open : goal.returns-then-is-open
-returns-then-is-open c =
+pub returns-then-is_open : goal.returns-then-is_open
+returns-then-is_open c =
     let s = c.args.self.now in
-    let s' = c.end-line.new.self in
+    let s' = c.end_line.new.self in
     let out = string_bytes c.args.out.now in
-    let out' = string_bytes c.end-line.new.out in
-    let exact : IfOk c.end-line.result (λ _. progress s' out' ≡ finished (progress s out)) = search rules in
-    record { exact = exact; law = IfOk-weaker c.end-line.result (λ _. progress s' out' ≡ finished (progress s out)) (λ _. Finishes s s' out out') (λ _ e. finishes s s' out out' e) exact }
+    let out' = string_bytes c.end_line.new.out in
+    let exact : IfOk c.end_line.result (λ _. progress s' out' ≡ finished (progress s out)) = search rules in
+    record { exact = exact; law = IfOk-weaker c.end_line.result (λ _. progress s' out' ≡ finished (progress s out)) (λ _. Finishes s s' out out') (λ _ e. finishes s s' out out' e) exact }
 
 pub returns : goal.returns
 returns c =

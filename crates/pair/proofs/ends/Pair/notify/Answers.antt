@@ -3,6 +3,6 @@ use Rattle.pair.proofs.ends.Pair.notify.Goals as goal
 
 pub returns : goal.returns
 returns g c =
-    let told = c.plain-notify.ensures in
-    let went = notify_goes g.R.Register.limit g.U.Link.waits g.D.Link.waits g.D.Link.longest g.E.Link.longest g.D.Link.sends g.met.D.Link.sent g.E.Link.waits g.E.Link.sends g.met.E.Link.sent c.args.user c.args.self.now c.plain-notify.new.self c.args.down.now c.plain-notify.new.down c.plain-notify.result told.outcome in
+    let told = c.plain_notify.ensures in
+    let went = notify_goes g.R.Register.limit g.U.Link.waits g.D.Link.waits g.D.Link.longest g.E.Link.longest g.D.Link.sends g.met.D.Link.sent g.E.Link.waits g.E.Link.sends g.met.E.Link.sent c.args.user c.args.self.now c.plain_notify.new.self c.args.down.now c.plain_notify.new.down c.plain_notify.result told.outcome in
     record { outcome = told.outcome; same = told.same; step = went.0; law = went.1 }

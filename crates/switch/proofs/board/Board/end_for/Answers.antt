@@ -8,16 +8,16 @@ use Rattle.switch.proofs.board.Board.end_for.Goals as goal
 pub returns-in-Some : goal.returns-in-Some
 returns-in-Some c =
     let me = c.args.self.now in
-    let at : At (model me) c.args.call.0 c.record-place-i.result c.index.result.now = record { ids = c.requires.ids; place_is = c.record-place-i.ensures; within = omega (arith, me.records.ok.0, c.len.ensures); value = c.index.ensures } in
-    record { state = ended_for (model me) c.args.user.0 c.args.call.0 c.record-place-i.result _ _ cleared_by c.in-Some.side c.index.result.now c.clear-by.new.self at (sym c.in-Some.ensures) c.clear-by.ensures.record c.clear-by.ensures.used c.clear-by.ensures.size; seats = refl; room = refl }
+    let at : At (model me) c.args.call.0 c.record_place-i.result c.index.result.now = record { ids = c.requires.ids; place_is = c.record_place-i.ensures; within = omega (arith, me.records.ok.0, c.len.ensures); value = c.index.ensures } in
+    record { state = ended_for (model me) c.args.user.0 c.args.call.0 c.record_place-i.result _ _ cleared_by c.in-Some.side c.index.result.now c.clear_by.new.self at (sym c.in-Some.ensures) c.clear_by.ensures.record c.clear_by.ensures.used c.clear_by.ensures.size; seats = refl; room = refl }
 
-pub returns-in-default : goal.returns-in-default
-returns-in-default c =
+pub returns-in_default : goal.returns-in_default
+returns-in_default c =
     let me = c.args.self.now in
-    let at : At (model me) c.args.call.0 c.record-place-i.result c.index.result.now = record { ids = c.requires.ids; place_is = c.record-place-i.ensures; within = omega (arith, me.records.ok.0, c.len.ensures); value = c.index.ensures } in
-    absurd (party_side (model me) c.args.user.0 c.args.call.0 c.record-place-i.result c.index.result.now at c.requires.party (sym c.side_of.ensures ∙ c.in-default.is))
+    let at : At (model me) c.args.call.0 c.record_place-i.result c.index.result.now = record { ids = c.requires.ids; place_is = c.record_place-i.ensures; within = omega (arith, me.records.ok.0, c.len.ensures); value = c.index.ensures } in
+    absurd (party_side (model me) c.args.user.0 c.args.call.0 c.record_place-i.result c.index.result.now at c.requires.party (sym c.side_of.ensures ∙ c.in_default.is))
 
 pub returns-else-i-len : goal.returns-else-i-len
 returns-else-i-len c =
     let me = c.args.self.now in
-    record { state = ended_nowhere (model me) c.args.call.0 (for_user cleared_by c.args.user.0) (omega (arith, me.records.ok.0, c.len.ensures, c.record-place-i.ensures)); seats = refl; room = refl }
+    record { state = ended_nowhere (model me) c.args.call.0 (for_user cleared_by c.args.user.0) (omega (arith, me.records.ok.0, c.len.ensures, c.record_place-i.ensures)); seats = refl; room = refl }

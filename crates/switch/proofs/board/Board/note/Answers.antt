@@ -9,10 +9,10 @@ pub returns-then-i-len : goal.returns-then-i-len
 returns-then-i-len c =
     let me = c.args.self.now in
     let n = handled_by c.args.user c.args.exchange c.args.handled in
-    record { state = ap (λ ss. with_sessions ss (model me)) (noted_there n c.session-place-i.result (vec_items me.sessions) c.requires c.session-place-i.ensures (omega (arith, me.sessions.ok.0, c.len.ensures))); seats = refl; room = refl }
+    record { state = ap (λ ss. with_sessions ss (model me)) (noted_there n c.session_place-i.result (vec_items me.sessions) c.requires c.session_place-i.ensures (omega (arith, me.sessions.ok.0, c.len.ensures))); seats = refl; room = refl }
 
 pub returns-else-i-len : goal.returns-else-i-len
 returns-else-i-len c =
     let me = c.args.self.now in
     let n = handled_by c.args.user c.args.exchange c.args.handled in
-    record { state = ap (λ ss. with_sessions ss (model me)) (sym (noted_nowhere n (vec_items me.sessions) (omega (arith, me.sessions.ok.0, c.len.ensures, c.session-place-i.ensures)))); seats = refl; room = refl }
+    record { state = ap (λ ss. with_sessions ss (model me)) (sym (noted_nowhere n (vec_items me.sessions) (omega (arith, me.sessions.ok.0, c.len.ensures, c.session_place-i.ensures)))); seats = refl; room = refl }

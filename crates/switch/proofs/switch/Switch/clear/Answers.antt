@@ -6,8 +6,8 @@ use Rattle.switch.proofs.SoundCalls.{kept_clears}
 use Rattle.switch.proofs.SoundSwitch.{facts, sound_switch}
 use Rattle.switch.proofs.switch.Switch.clear.Goals as goal
 
-pub invariant-of-self : goal.invariant-of-self
-invariant-of-self g c =
+pub invariant_of-self : goal.invariant_of-self
+invariant_of-self g c =
     let me = c.args.self.now in
     let limit : ℕ → ℕ = g.R.Register.limit me.register in
     let kept : Kept limit (model me.board) (model c.clear.new.self) = kept_at limit _ _ _ c.clear.ensures.state (kept_clears limit (model me.board) c.args.call (sound_switch me)) in

@@ -6,8 +6,8 @@ use Rattle.switch.proofs.SoundCalls.{kept_connected}
 use Rattle.switch.proofs.SoundSwitch.{facts, sound_switch}
 use Rattle.switch.proofs.switch.Switch.connect.Goals as goal
 
-pub invariant-of-self : goal.invariant-of-self
-invariant-of-self g c =
+pub invariant_of-self : goal.invariant_of-self
+invariant_of-self g c =
     let me = c.args.self.now in
     let limit : ℕ → ℕ = g.R.Register.limit me.register in
     let kept : Kept limit (model me.board) (model c.connect.new.self) = kept_at limit _ _ _ c.connect.ensures.state (kept_connected limit (model me.board) c.args.call c.args.first c.args.second (sound_switch me)) in

@@ -6,8 +6,8 @@ use Rattle.switch.proofs.SoundCalls.{kept_notifying}
 use Rattle.switch.proofs.SoundSwitch.{facts, sound_switch}
 use Rattle.switch.proofs.switch.Switch.notify.Goals as goal
 
-pub invariant-of-self : goal.invariant-of-self
-invariant-of-self g c =
+pub invariant_of-self : goal.invariant_of-self
+invariant_of-self g c =
     let me = c.args.self.now in
     let limit : ℕ → ℕ = g.R.Register.limit me.register in
     let kept : Kept limit (model me.board) (model c.notify.new.self) = kept_notifying g.D.Link.sends limit c.args.user (model me.board) (model c.notify.new.self) c.args.down.now c.notify.new.down c.notify.result (sound_switch me) c.notify.ensures.outcome in

@@ -5,4 +5,4 @@ use Rattle.terminal.proofs.terminal.Terminal.receive.Goals as goal
 
 pub returns : goal.returns
 returns g c =
-    record { outcome = c.receive-one.ensures; law = receiving_lawful g.D.Link.takes (model c.args.self.now) c.args.down.now (model c.receive-one.new.self) c.receive-one.new.down c.receive-one.result c.args.self.now.ids c.receive-one.ensures }
+    record { outcome = c.receive_one.ensures; law = receiving_lawful g.D.Link.takes (model c.args.self.now) c.args.down.now (model c.receive_one.new.self) c.receive_one.new.down c.receive_one.result c.args.self.now.ids c.receive_one.ensures }

@@ -3,7 +3,7 @@ use Rattle.terminal.specs.State.{model}
 use Rattle.terminal.proofs.Requests.{opened_known}
 use Rattle.terminal.proofs.terminal.Terminal.request.Goals as goal
 
-pub invariant-of-self : goal.invariant-of-self
-invariant-of-self g c =
+pub invariant_of-self : goal.invariant_of-self
+invariant_of-self g c =
     let me = c.args.self.now in
-    (me.few, (me.room, (me.ids, (me.top, (opened_known (model me) c.args.ask c.args.call tt c.opening-request.result me.ids c.in-ok-check-request.ensures c.opening-request.ensures, tt)))))
+    (me.few, (me.room, (me.ids, (me.top, (opened_known (model me) c.args.ask c.args.call tt c.opening-request.result me.ids c.in_ok-check_request.ensures c.opening-request.ensures, tt)))))

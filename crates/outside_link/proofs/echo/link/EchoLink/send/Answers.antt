@@ -7,25 +7,25 @@ use Rattle.outside_link.specs.Echo.{waiting}
 use Rattle.outside_link.specs.Echoes.{joins}
 use Rattle.outside_link.proofs.echo.link.EchoLink.send.Goals as goal
 
-pub returns-in-err-check-frame : goal.returns-in-err-check-frame
-returns-in-err-check-frame c =
-    let p = err_from_is_err_and c.from-residual.result c.from-residual.ensures.1 in
-    rw (p.1, p.2) (refused_unfit 8 c.args.frame.now (waiting c.args.self.now) _ c.in-err-check-frame.ensures)
+pub returns-in_err-check_frame : goal.returns-in_err-check_frame
+returns-in_err-check_frame c =
+    let p = err_from_is_err_and c.from_residual.result c.from_residual.ensures.1 in
+    rw (p.1, p.2) (refused_unfit 8 c.args.frame.now (waiting c.args.self.now) _ c.in_err-check_frame.ensures)
 
 pub returns-then-turn-ge2 : goal.returns-then-turn-ge2
 returns-then-turn-ge2 c =
     let w = waiting c.args.self.now in
-    let fit = passes (unfit 8 c.args.frame.now) _ _ c.in-ok-check-frame.ensures in
+    let fit = passes (unfit 8 c.args.frame.now) _ _ c.in_ok-check_frame.ensures in
     refused_fit 8 c.args.frame.now w w c.in_link.result fit c.in_link.ensures (same w)
 
 pub returns-then-len-eq4 : goal.returns-then-len-eq4
 returns-then-len-eq4 c =
     let w = waiting c.args.self.now in
-    let fit = passes (unfit 8 c.args.frame.now) _ _ c.in-ok-check-frame.ensures in
-    refused_fit 8 c.args.frame.now w w _ fit c.in-link-then-len-eq4.ensures (same w)
+    let fit = passes (unfit 8 c.args.frame.now) _ _ c.in_ok-check_frame.ensures in
+    refused_fit 8 c.args.frame.now w w _ fit c.in_link-then-len-eq4.ensures (same w)
 
 pub returns : goal.returns
 returns c = record {
-  fit = passes (unfit 8 c.args.frame.now) _ _ c.in-ok-check-frame.ensures;
-  waits = joins (vec_items c.args.self.now.letters) _ c.of.result c.args.frame.now c.push-reserved.ensures.items c.of.ensures;
+  fit = passes (unfit 8 c.args.frame.now) _ _ c.in_ok-check_frame.ensures;
+  waits = joins (vec_items c.args.self.now.letters) _ c.of.result c.args.frame.now c.push_reserved.ensures.items c.of.ensures;
 }

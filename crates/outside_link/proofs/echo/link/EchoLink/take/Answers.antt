@@ -9,9 +9,9 @@ use Rattle.outside_link.specs.Echoes.{long, stays, goes}
 use Rattle.outside_link.proofs.echo.link.EchoLink.take.Goals as goal
 use Rattle.outside_link.proofs.echo.link.EchoLink.take.Goals.{then-self, else-self}
 
-pub returns-then-is-empty : goal.returns-then-is-empty
-returns-then-is-empty c = record {
-  long = passes (short c.args.out.now) _ _ c.in-ok-check-taking.ensures;
+pub returns-then-is_empty : goal.returns-then-is_empty
+returns-then-is_empty c = record {
+  long = passes (short c.args.out.now) _ _ c.in_ok-check_taking.ensures;
   untouched = search rules;
   waits = same (waiting c.args.self.now);
 }
@@ -26,6 +26,6 @@ returns c =
       | then-self w ↦ goes ls _ l c.index.ensures some (ap (λ s. vec_items s.1.0) w.self-is ∙ w.remove.ensures.places.2)
       | else-self w ↦ stays ls _ l c.index.ensures some (ap (λ s. vec_items s.1.0) w.self-is)
     ] in
-    handed_out 8 c.args.out.now c.copy-to-n.new.out (content l) (contents ls) _ c.copy-to-n.result
-    (passes (short c.args.out.now) _ _ c.in-ok-check-taking.ensures)
-    (omega (arith, long l, l.some)) (omega (arith, long l, l.fits)) c.copy-to-n.ensures.long c.copy-to-n.ensures.out left
+    handed_out 8 c.args.out.now c.copy_to-n.new.out (content l) (contents ls) _ c.copy_to-n.result
+    (passes (short c.args.out.now) _ _ c.in_ok-check_taking.ensures)
+    (omega (arith, long l, l.some)) (omega (arith, long l, l.fits)) c.copy_to-n.ensures.long c.copy_to-n.ensures.out left
