@@ -25,7 +25,7 @@ use Rattle.terminal.specs.declared.request.Request.{Request}
 use Rattle.terminal.specs.declared.told.Received.{Received}
 use Rattle.terminal.specs.declared.told.Reply.{Reply}
 use Rattle.terminal.specs.declared.told.Reply.TheVariants.{Granted, Declined, Cleared}
-use Rattle.terminal.proofs.Marks.{and_left, and_right, without_below}
+use Rattle.terminal.proofs.Marks.{and_left, and_right}
 
 -- the own mark of the first of two lists that begin with calls of one identifier
 same_own : (e : Bool) (x y : Call) (p q : Option Call) → x.own ≡ y.own → own_of p ≡ own_of q → own_of (cond e (Some x) p) ≡ own_of (cond e (Some y) q)
@@ -37,8 +37,8 @@ shown_other : (n i : ℕ) (b : Bool) (cs : List Call) → shown i (mark_other n 
 shown_other n i b [] = refl
 shown_other n i b (c ∷ cs) = go (eqb c.id.0 n) (shown_other n i b cs)
   where
-    go : (t : Bool) → shown i (mark_other n b cs) ≡ shown i cs → shown i (cond t (other_to b c) c ∷ mark_other n b cs) ≡ shown i (c ∷ cs)
-    go true ih = same_own (eqb c.id.0 i) (other_to b c) c (find i (mark_other n b cs)) (find i cs) refl ih
+    go : (t : Bool) → shown i (mark_other n b cs) ≡ shown i cs → shown i (cond t (other_to b c ∷ cs) (c ∷ mark_other n b cs)) ≡ shown i (c ∷ cs)
+    go true ih = same_own (eqb c.id.0 i) (other_to b c) c (find i cs) (find i cs) refl refl
     go false ih = same_own (eqb c.id.0 i) c c (find i (mark_other n b cs)) (find i cs) refl ih
 
 -- a call's own mark leaves the others'
@@ -46,11 +46,11 @@ shown_own : (n i : ℕ) (b : Bool) (cs : List Call) → eqb n i ≡ false → sh
 shown_own n i b [] ne = refl
 shown_own n i b (c ∷ cs) ne = go (eqb c.id.0 n) refl (shown_own n i b cs ne)
   where
-    go : (t : Bool) → eqb c.id.0 n ≡ t → shown i (mark n b cs) ≡ shown i cs → shown i (cond t (own_to b c) c ∷ mark n b cs) ≡ shown i (c ∷ cs)
+    go : (t : Bool) → eqb c.id.0 n ≡ t → shown i (mark n b cs) ≡ shown i cs → shown i (cond t (own_to b c ∷ cs) (c ∷ mark n b cs)) ≡ shown i (c ∷ cs)
     go true e ih =
         let f : eqb c.id.0 i ≡ false = ap (λ k. eqb k i) (eqb-true _ _ e) ∙ ne in
-        let P : Bool → Type 0 = λ x. own_of (cond x (Some (own_to b c)) (find i (mark n b cs))) ≡ own_of (cond x (Some c) (find i cs)) in
-        subst P (sym f) ih
+        let P : Bool → Type 0 = λ x. own_of (cond x (Some (own_to b c)) (find i cs)) ≡ own_of (cond x (Some c) (find i cs)) in
+        subst P (sym f) refl
     go false e ih = same_own (eqb c.id.0 i) c c (find i (mark n b cs)) (find i cs) refl ih
 
 -- identifiers not above the first are not found
@@ -74,9 +74,9 @@ shown_without n i k last (c ∷ cs) h is = go (eqb c.id.0 n) (eqb c.id.0 i) refl
     rest : rising_from c.id.0 last cs ≡ true
     rest = and_right (ltb k c.id.0) (rising_from c.id.0 last cs) h
 
-    go : (t e : Bool) → eqb c.id.0 n ≡ t → eqb c.id.0 i ≡ e → is_some (find i (cond t (without n cs) (c ∷ without n cs))) ≡ true → (is_some (find i (without n cs)) ≡ true → shown i (without n cs) ≡ shown i cs) → shown i (cond t (without n cs) (c ∷ without n cs)) ≡ own_of (cond e (Some c) (find i cs))
-    go true true p q is ih = none_held (find i (without n cs)) (Some c) (ap (find i) (without_below n c.id.0 last cs rest (omega (arith, eqb-true _ _ p))) ∙ find_below i c.id.0 last cs rest (omega (arith, eqb-true _ _ q))) is
-    go true false p q is ih = ih is
+    go : (t e : Bool) → eqb c.id.0 n ≡ t → eqb c.id.0 i ≡ e → is_some (find i (cond t cs (c ∷ without n cs))) ≡ true → (is_some (find i (without n cs)) ≡ true → shown i (without n cs) ≡ shown i cs) → shown i (cond t cs (c ∷ without n cs)) ≡ own_of (cond e (Some c) (find i cs))
+    go true true p q is ih = none_held (find i cs) (Some c) (find_below i c.id.0 last cs rest (omega (arith, eqb-true _ _ q))) is
+    go true false p q is ih = refl
     go false true p q is ih =
         let P : Bool → Type 0 = λ x. own_of (cond x (Some c) (find i (without n cs))) ≡ Some c.own in
         subst P (sym q) refl

@@ -2,7 +2,7 @@
 use Rattle.std.proofs.Common.{◌≡◌, ℕ, suc, ◌+◌, ◌<◌, ◌≤◌, Bool, true, false, cond, ◌&&◌, ◌||◌, eqb, ltb, leb, List, [], ◌∷◌, ◌++◌, length, get_or, drop, set, Some, None, Ok, Option, sym, refl, ap, ◌∙◌, subst, add-one, arith, ltb-false, ltb-true, lt-ltb, eq-eqb, ne_eqb, eqb-true, le-leb, leb-false, leb-true}
 use Rattle.std.specs.List.{remove}
 use Rattle.std.proofs.lemmas.List.{drop_more, drop_all}
-use Rattle.terminal.specs.Calls.{rising_from, rising, known, place, find, change, without}
+use Rattle.terminal.specs.Calls.{rising_from, known, place, find, change, without}
 use Rattle.frames.specs.declared.content.CallId.{CallId}
 use Rattle.text.specs.Fault.{in_terminal, unless}
 use Rattle.terminal.specs.State.{Model, connect_checked}
@@ -73,40 +73,20 @@ find_range n k last (x ∷ cs) c h e = go (eqb x.id.0 n) refl e (λ r. find_rang
     go true t e ih = (omega (arith, first, eqb-true _ _ t), omega (arith, eqb-true _ _ t, top x.id.0 cs rest))
     go false t e ih = let r = ih rest e in (omega (arith, first, r.0), r.1)
 
--- an identifier not above the first is not in the calls, so that nothing is changed or removed
-pub change_below : (f : Call → Call) (n k last : ℕ) (cs : List Call) → rising_from k last cs ≡ true → n ≤ k → change f n cs ≡ cs
-change_below f n k last [] h le = refl
-change_below f n k last (c ∷ cs) h le =
-    let first : k < c.id.0 = ltb-true k c.id.0 (and_left (ltb k c.id.0) (rising_from c.id.0 last cs) h) in
-    let ih = change_below f n c.id.0 last cs (and_right (ltb k c.id.0) (rising_from c.id.0 last cs) h) (omega (arith, first, le)) in
-    let e : eqb c.id.0 n ≡ false = ne_eqb c.id.0 n (λ e. omega (arith, first, le, e)) in
-    ap (λ b. cond b (f c) c ∷ change f n cs) e ∙ ap (λ l. c ∷ l) ih
-
-pub without_below : (n k last : ℕ) (cs : List Call) → rising_from k last cs ≡ true → n ≤ k → without n cs ≡ cs
-without_below n k last [] h le = refl
-without_below n k last (c ∷ cs) h le =
-    let first : k < c.id.0 = ltb-true k c.id.0 (and_left (ltb k c.id.0) (rising_from c.id.0 last cs) h) in
-    let ih = without_below n c.id.0 last cs (and_right (ltb k c.id.0) (rising_from c.id.0 last cs) h) (omega (arith, first, le)) in
-    let e : eqb c.id.0 n ≡ false = ne_eqb c.id.0 n (λ e. omega (arith, first, le, e)) in
-    ap (λ b. cond b (without n cs) (c ∷ without n cs)) e ∙ ap (λ l. c ∷ l) ih
-
 -- a change at the place
-pub change_at : (f : Call → Call) (n k last : ℕ) (cs : List Call) (d : Call) → rising_from k last cs ≡ true → place n cs < length cs → change f n cs ≡ set cs (place n cs) (f (get_or cs (place n cs) d))
-change_at f n k last [] d up h = refl
-change_at f n k last (c ∷ cs) d up h = go (eqb c.id.0 n) refl h (change_at f n c.id.0 last cs d rest)
+pub change_at : (f : Call → Call) (n : ℕ) (cs : List Call) (d : Call) → place n cs < length cs → change f n cs ≡ set cs (place n cs) (f (get_or cs (place n cs) d))
+change_at f n [] d h = refl
+change_at f n (c ∷ cs) d h = go (eqb c.id.0 n) h (change_at f n cs d)
   where
-    rest : rising_from c.id.0 last cs ≡ true
-    rest = and_right (ltb k c.id.0) (rising_from c.id.0 last cs) up
-
-    go : (b : Bool) → eqb c.id.0 n ≡ b → cond b 0 (place n cs + 1) < suc (length cs) → (place n cs < length cs → change f n cs ≡ set cs (place n cs) (f (get_or cs (place n cs) d))) → cond b (f c) c ∷ change f n cs ≡ set (c ∷ cs) (cond b 0 (place n cs + 1)) (f (get_or (c ∷ cs) (cond b 0 (place n cs + 1)) d))
-    go true t h ih = ap (λ l. f c ∷ l) (change_below f n c.id.0 last cs rest (omega (arith, eqb-true _ _ t)))
-    go false t h ih = rw add-one (ap (λ l. c ∷ l) (ih (omega arith)))
+    go : (b : Bool) → cond b 0 (place n cs + 1) < suc (length cs) → (place n cs < length cs → change f n cs ≡ set cs (place n cs) (f (get_or cs (place n cs) d))) → cond b (f c ∷ cs) (c ∷ change f n cs) ≡ set (c ∷ cs) (cond b 0 (place n cs + 1)) (f (get_or (c ∷ cs) (cond b 0 (place n cs + 1)) d))
+    go true h ih = refl
+    go false h ih = rw add-one (ap (λ l. c ∷ l) (ih (omega arith)))
 
 pub change_none : (f : Call → Call) (n : ℕ) (cs : List Call) → length cs ≤ place n cs → change f n cs ≡ cs
 change_none f n [] h = refl
 change_none f n (c ∷ cs) h = go (eqb c.id.0 n) h (change_none f n cs)
   where
-    go : (b : Bool) → suc (length cs) ≤ cond b 0 (place n cs + 1) → (length cs ≤ place n cs → change f n cs ≡ cs) → cond b (f c) c ∷ change f n cs ≡ c ∷ cs
+    go : (b : Bool) → suc (length cs) ≤ cond b 0 (place n cs + 1) → (length cs ≤ place n cs → change f n cs ≡ cs) → cond b (f c ∷ cs) (c ∷ change f n cs) ≡ c ∷ cs
     go true h ih = absurd (omega arith)
     go false h ih = ap (λ l. c ∷ l) (ih (omega arith))
 
@@ -114,36 +94,33 @@ pub rising_change : (f : Call → Call) → ((c : Call) → (f c).id ≡ c.id) �
 rising_change f same n k last [] = refl
 rising_change f same n k last (c ∷ cs) = go (eqb c.id.0 n) (rising_change f same n c.id.0 last cs)
   where
-    go : (b : Bool) → rising_from c.id.0 last (change f n cs) ≡ rising_from c.id.0 last cs → rising_from k last (cond b (f c) c ∷ change f n cs) ≡ rising_from k last (c ∷ cs)
-    go true ih = ap (λ x. ltb k x.0 && rising_from x.0 last (change f n cs)) (same c) ∙ ap (λ b. ltb k c.id.0 && b) ih
+    go : (b : Bool) → rising_from c.id.0 last (change f n cs) ≡ rising_from c.id.0 last cs → rising_from k last (cond b (f c ∷ cs) (c ∷ change f n cs)) ≡ rising_from k last (c ∷ cs)
+    go true ih = ap (λ x. ltb k x.0 && rising_from x.0 last cs) (same c)
     go false ih = ap (λ b. ltb k c.id.0 && b) ih
 
 -- a write at the place is the change
-pub wrote : (f : Call → Call) (n i last : ℕ) (cs : List Call) (c : Call) → rising last cs ≡ true → i ≡ place n cs → i < length cs → c ≡ get_or cs i c → set cs i (f c) ≡ change f n cs
-wrote f n i last cs c up at lt e = sym (change_at f n 0 last cs c up (subst (λ k. k < length cs) at lt) ∙ ap (λ k. set cs k (f (get_or cs k c))) (sym at) ∙ ap (λ x. set cs i (f x)) (sym e))
+pub wrote : (f : Call → Call) (n i : ℕ) (cs : List Call) (c : Call) → i ≡ place n cs → i < length cs → c ≡ get_or cs i c → set cs i (f c) ≡ change f n cs
+wrote f n i cs c at lt e = sym (change_at f n cs c (subst (λ k. k < length cs) at lt) ∙ ap (λ k. set cs k (f (get_or cs k c))) (sym at) ∙ ap (λ x. set cs i (f x)) (sym e))
 
 -- a removal at the place
-pub without_at : (n k last : ℕ) (cs : List Call) → rising_from k last cs ≡ true → place n cs < length cs → without n cs ≡ remove cs (place n cs)
-without_at n k last [] up h = absurd (omega arith)
-without_at n k last (c ∷ cs) up h = go (eqb c.id.0 n) refl h (without_at n c.id.0 last cs rest)
+pub without_at : (n : ℕ) (cs : List Call) → place n cs < length cs → without n cs ≡ remove cs (place n cs)
+without_at n [] h = absurd (omega arith)
+without_at n (c ∷ cs) h = go (eqb c.id.0 n) h (without_at n cs)
   where
-    rest : rising_from c.id.0 last cs ≡ true
-    rest = and_right (ltb k c.id.0) (rising_from c.id.0 last cs) up
-
-    go : (b : Bool) → eqb c.id.0 n ≡ b → cond b 0 (place n cs + 1) < suc (length cs) → (place n cs < length cs → without n cs ≡ remove cs (place n cs)) → cond b (without n cs) (c ∷ without n cs) ≡ remove (c ∷ cs) (cond b 0 (place n cs + 1))
-    go true t h ih = without_below n c.id.0 last cs rest (omega (arith, eqb-true _ _ t))
-    go false t h ih = rw add-one (ap (λ l. c ∷ l) (ih (omega arith)))
+    go : (b : Bool) → cond b 0 (place n cs + 1) < suc (length cs) → (place n cs < length cs → without n cs ≡ remove cs (place n cs)) → cond b cs (c ∷ without n cs) ≡ remove (c ∷ cs) (cond b 0 (place n cs + 1))
+    go true h ih = refl
+    go false h ih = rw add-one (ap (λ l. c ∷ l) (ih (omega arith)))
 
 pub without_none : (n : ℕ) (cs : List Call) → length cs ≤ place n cs → without n cs ≡ cs
 without_none n [] h = refl
 without_none n (c ∷ cs) h = go (eqb c.id.0 n) h (without_none n cs)
   where
-    go : (b : Bool) → suc (length cs) ≤ cond b 0 (place n cs + 1) → (length cs ≤ place n cs → without n cs ≡ cs) → cond b (without n cs) (c ∷ without n cs) ≡ c ∷ cs
+    go : (b : Bool) → suc (length cs) ≤ cond b 0 (place n cs + 1) → (length cs ≤ place n cs → without n cs ≡ cs) → cond b cs (c ∷ without n cs) ≡ c ∷ cs
     go true h ih = absurd (omega arith)
     go false h ih = ap (λ l. c ∷ l) (ih (omega arith))
 
-pub cut_is : (n i last : ℕ) (cs : List Call) → rising last cs ≡ true → i ≡ place n cs → i < length cs → remove cs i ≡ without n cs
-cut_is n i last cs up e lt = ap (remove cs) e ∙ sym (without_at n 0 last cs up (subst (λ k. k < length cs) e lt))
+pub cut_is : (n i : ℕ) (cs : List Call) → i ≡ place n cs → i < length cs → remove cs i ≡ without n cs
+cut_is n i cs e lt = ap (remove cs) e ∙ sym (without_at n cs (subst (λ k. k < length cs) e lt))
 
 lower : (n m last : ℕ) (cs : List Call) → n < m → rising_from m last cs ≡ true → rising_from n last cs ≡ true
 lower n m last [] lt h = le-leb n last (omega (arith, leb-true m last h))
@@ -160,8 +137,8 @@ rising_without n k last (c ∷ cs) h = go (eqb c.id.0 n) (rising_without n c.id.
     rest : rising_from c.id.0 last cs ≡ true
     rest = and_right (ltb k c.id.0) (rising_from c.id.0 last cs) h
 
-    go : (b : Bool) → (rising_from c.id.0 last cs ≡ true → rising_from c.id.0 last (without n cs) ≡ true) → rising_from k last (cond b (without n cs) (c ∷ without n cs)) ≡ true
-    go true ih = lower k c.id.0 last (without n cs) first (ih rest)
+    go : (b : Bool) → (rising_from c.id.0 last cs ≡ true → rising_from c.id.0 last (without n cs) ≡ true) → rising_from k last (cond b cs (c ∷ without n cs)) ≡ true
+    go true ih = lower k c.id.0 last cs first rest
     go false ih = both _ _ (lt-ltb k c.id.0 first) (ih rest)
 
 -- a call more, above the last

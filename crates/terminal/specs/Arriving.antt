@@ -12,8 +12,8 @@ use Rattle.frames.specs.declared.content.News.TheVariants.{PutOnHold, Retrieved,
 use Rattle.frames.specs.declared.content.Verdict.{Verdict}
 use Rattle.frames.specs.declared.content.Verdict.TheVariants as verdict
 use Rattle.links.specs.Meaning.{TakeAnswer}
-use Rattle.signalling.specs.Ask.{asked_by, same_ask}
-use Rattle.signalling.specs.Carrying.{Pulling}
+pub use Rattle.signalling.specs.Ask.{asked_by, same_ask}
+pub use Rattle.signalling.specs.Carrying.{pulled, Pulling}
 use Rattle.signalling.specs.declared.ask.Ask.{Ask}
 use Rattle.signalling.specs.declared.ask.Ask.TheVariants.{Hold, Retrieve, Clear}
 use Rattle.text.specs.Fault.{in_terminal}

@@ -3,8 +3,8 @@ use Rattle.std.specs.Prelude.{◌≡◌, ℕ, ◌+◌, ◌-◌, Bool, true, fals
 use Rattle.frames.specs.declared.content.CallId.{CallId}
 use Rattle.frames.specs.declared.content.Frame.{Frame}
 use Rattle.links.specs.Meaning.{SendAnswer}
-use Rattle.signalling.specs.Ask.{body_for}
-use Rattle.signalling.specs.Carrying.{Telling}
+pub use Rattle.signalling.specs.Ask.{body_for}
+pub use Rattle.signalling.specs.Carrying.{Sending, Telling}
 use Rattle.signalling.specs.declared.ask.Ask.{Ask}
 use Rattle.signalling.specs.declared.ask.Ask.TheVariants.{Hold, Retrieve, Clear}
 use Rattle.text.specs.Fault.{in_terminal, unless}

@@ -30,7 +30,7 @@ find n (c ∷ cs) = cond (c.id.0 == n) (Some c) (find n cs)
 -- the call that has an identifier, changed by f
 abbrev pub change : (Call → Call) → ℕ → List Call → List Call
 change f n [] = []
-change f n (c ∷ cs) = cond (c.id.0 == n) (f c) c ∷ change f n cs
+change f n (c ∷ cs) = cond (c.id.0 == n) (f c ∷ cs) (c ∷ change f n cs)
 
 -- a call with its own mark, or the other party's, set or dropped
 abbrev pub own_to : Bool → Call → Call
@@ -49,4 +49,4 @@ mark_other n b cs = change (other_to b) n cs
 -- without the call that has an identifier
 abbrev pub without : ℕ → List Call → List Call
 without n [] = []
-without n (c ∷ cs) = cond (c.id.0 == n) (without n cs) (c ∷ without n cs)
+without n (c ∷ cs) = cond (c.id.0 == n) cs (c ∷ without n cs)

@@ -1,17 +1,26 @@
 // Frames put into a link, and taken out of it.
-use frames::{Body, CallId, Frame};
+use frames::{Body, CallId, Frame, read, write};
 use links::Link;
-use signalling::{post, pull};
 use std::process::Abort;
 use std::test::Fail;
 use terminal::{Received, Terminal};
 use text::Fault;
 
+// The next frame, read.
+fn next_frame<L: Link>(link: &mut L) -> Result<Option<Frame>, Fault> {
+    let mut memory = [0u8; 32];
+    let Some(n) = link.take(&mut memory)? else {
+        return Ok(None);
+    };
+    let frame = read(&memory[0..n])?;
+    Ok(Some(frame))
+}
+
 // One frame was sent, which says this.
 pub fn expect_sent<L: Link>(rt: &impl Abort, up: &mut L, exchange: bool, call: u16, body: Body) {
     let call = CallId(call);
     assert_eq!(rt;
-        pull(up),
+        next_frame(up),
         Ok(Some(Frame {
             exchange,
             call,
@@ -22,7 +31,7 @@ pub fn expect_sent<L: Link>(rt: &impl Abort, up: &mut L, exchange: bool, call: u
 }
 
 pub fn expect_none<L: Link>(rt: &impl Abort, up: &mut L) {
-    assert_eq!(rt; pull(up), Ok(None));
+    assert_eq!(rt; next_frame(up), Ok(None));
 }
 
 // A frame comes down, and this is told of it.
@@ -36,14 +45,12 @@ pub fn expect_told<L: Link>(
     told: Result<Received, Fault>,
 ) -> Result<(), Fail> {
     let call = CallId(call);
-    post(
-        down,
-        Frame {
-            exchange,
-            call,
-            body,
-        },
-    )?;
+    let octets = write(&Frame {
+        exchange,
+        call,
+        body,
+    })?;
+    down.send(octets.as_slice())?;
     assert_eq!(rt; terminal.receive(down), told);
     assert_eq!(rt; terminal.receive(down), Ok(Received::Nothing));
     Ok(())

@@ -9,13 +9,13 @@ pub invariant_of-self : goal.invariant_of-self
 invariant_of-self c =
     let me = c.args.self.now in
     let cs = vec_items me.table.calls in
-    let gone = c.remove.ensures.items ∙ cut_is c.args.call.0 c.place_of-i.result me.last cs me.ids c.place_of-i.ensures (omega (arith, me.table.calls.ok.0, c.len.ensures)) in
+    let gone = c.remove.ensures.items ∙ cut_is c.args.call.0 c.place_of-i.result cs c.place_of-i.ensures (omega (arith, me.table.calls.ok.0, c.len.ensures)) in
     (omega (arith, me.few), (omega (arith, me.room), (ap (rising me.last) gone ∙ rising_without c.args.call.0 0 me.last cs me.ids, (me.top, (me.asked, tt)))))
 
 pub returns-then-i-len : goal.returns-then-i-len
 returns-then-i-len c =
     let me = c.args.self.now in
-    ap (λ cs. with_calls cs (model me)) (c.remove.ensures.items ∙ cut_is c.args.call.0 c.place_of-i.result me.last (vec_items me.table.calls) me.ids c.place_of-i.ensures (omega (arith, me.table.calls.ok.0, c.len.ensures)))
+    ap (λ cs. with_calls cs (model me)) (c.remove.ensures.items ∙ cut_is c.args.call.0 c.place_of-i.result (vec_items me.table.calls) c.place_of-i.ensures (omega (arith, me.table.calls.ok.0, c.len.ensures)))
 
 pub returns-else-i-len : goal.returns-else-i-len
 returns-else-i-len c =

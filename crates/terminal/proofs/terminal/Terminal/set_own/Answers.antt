@@ -9,13 +9,13 @@ pub invariant_of-self : goal.invariant_of-self
 invariant_of-self c =
     let me = c.args.self.now in
     let cs = vec_items me.table.calls in
-    let same = wrote (own_to c.args.on) c.args.call.0 c.place_of-i.result me.last cs c.at.result.now me.ids c.place_of-i.ensures (omega (arith, me.table.calls.ok.0, c.len.ensures)) c.at.ensures.value in
+    let same = wrote (own_to c.args.on) c.args.call.0 c.place_of-i.result cs c.at.result.now c.place_of-i.ensures (omega (arith, me.table.calls.ok.0, c.len.ensures)) c.at.ensures.value in
     (me.few, (me.room, (ap (rising me.last) same ∙ rising_change (own_to c.args.on) (λ _. refl) c.args.call.0 0 me.last cs ∙ me.ids, (me.top, (me.asked, tt)))))
 
 pub returns-then-i-len : goal.returns-then-i-len
 returns-then-i-len c =
     let me = c.args.self.now in
-    ap (λ cs. with_calls cs (model me)) (wrote (own_to c.args.on) c.args.call.0 c.place_of-i.result me.last (vec_items me.table.calls) c.at.result.now me.ids c.place_of-i.ensures (omega (arith, me.table.calls.ok.0, c.len.ensures)) c.at.ensures.value)
+    ap (λ cs. with_calls cs (model me)) (wrote (own_to c.args.on) c.args.call.0 c.place_of-i.result (vec_items me.table.calls) c.at.result.now c.place_of-i.ensures (omega (arith, me.table.calls.ok.0, c.len.ensures)) c.at.ensures.value)
 
 pub returns-else-i-len : goal.returns-else-i-len
 returns-else-i-len c =
