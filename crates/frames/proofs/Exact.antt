@@ -1,5 +1,5 @@
 -- What is read is the encoding of its content. Assumes nothing.
-use Rattle.std.proofs.Common.{◌≡◌, ℕ, ◌+◌, ◌-◌, ◌*◌, ◌/◌, ◌%◌, ◌^◌, ◌<◌, Bool, true, false, cond, not, ◌&&◌, ◌||◌, eqb, ltb, List, [], ◌∷◌, ◌++◌, length, get_or, Some, None, Ok, Err, Option, Result, sym, refl, ap, ◌∙◌, subst, arith}
+use Rattle.std.proofs.Common.{◌≡◌, ℕ, ◌+◌, ◌-◌, ◌/◌, ◌%◌, ◌^◌, ◌<◌, Bool, true, false, cond, not, ◌&&◌, ◌||◌, eqb, ltb, List, [], ◌∷◌, ◌++◌, length, get_or, Some, None, Ok, Option, Result, sym, refl, ap, ◌∙◌, subst, arith}
 use Rattle.std.proofs.lemmas.Bool.{and_parts, eqb-true, not-false}
 use Rattle.std.proofs.lemmas.Bool.Decides.{nat_tests}
 use Rattle.frames.specs.declared.bits.Field.{Field}
@@ -17,13 +17,13 @@ use Rattle.text.specs.declared.fault.Fault.{Fault}
 use Rattle.frames.specs.declared.reader.Header.{Header}
 use Rattle.frames.specs.Bits.{field, Fit, joined, octets, parts}
 use Rattle.frames.specs.Codes.{bearing, is, kind, kind_number, kind_of, kinds, operations, causes, all_news, ss_type, request_type, request_of, answer_type, answer_of, cause_number, cause_of, news_number, news_of}
-use Rattle.text.specs.Fault.{in_frame, after, unless}
+use Rattle.text.specs.Fault.{in_frame, unless}
 use Rattle.text.specs.Laws.{Bytes}
 use Rattle.frames.specs.Layout.{header_widths, pdu_octets, filling, no_call, bars_bit}
-use Rattle.frames.specs.Read.{header, of_kind, reads, reads_header, reads_rest, checks_length, pdu, reads_pdu, requested, reads_request, verdict, listed, reads_verdict, answered, reads_answer, noticed, reads_notice, reads_bare, reads_body, frame}
-use Rattle.frames.specs.Write.{bit, header_fields, header_octets, declined, framed, pdu_of, writes, writes_pdu}
+use Rattle.frames.specs.Read.{header, of_kind, reads, reads_header, reads_rest, checks_length, pdu, reads_pdu, requested, verdict, reads_verdict, answered, noticed, reads_body, frame}
+use Rattle.frames.specs.Write.{bit, header_octets, declined, framed, pdu_of, writes, writes_pdu}
 use Rattle.text.proofs.Checks.{passed, came}
-use Rattle.frames.proofs.Regroup.{fields, joined_small, joined_parts, parts_fit, parts_joined, values}
+use Rattle.frames.proofs.Regroup.{joined_small, joined_parts, parts_fit, parts_joined}
 
 -- what is found under a number bears it
 borne : (n : ℕ) (o : Option ℕ) → is n o ≡ true → o ≡ Some n

@@ -1,7 +1,7 @@
 -- The bits of fields regrouped: fields of any widths joined into a number come out of it again, and so does the number. Assumes nothing.
 use Rattle.std.proofs.Common.{◌≡◌, ℕ, ◌+◌, ◌*◌, ◌/◌, ◌%◌, ◌^◌, ◌<◌, List, [], ◌∷◌, sym, refl, ap, ◌∙◌, subst, mul_assoc, add-mul, arith, pow_pos, pow-add, shr_lt}
-use lib.Pow.{split, high, low}
-use lib.Arith.{digits_lt}
+use Rattle.std.proofs.Math.Pow.{split, high, low}
+use Rattle.std.proofs.Math.Arith.{digits_lt}
 use Rattle.std.proofs.lemmas.Nat.{mod_below}
 use Rattle.frames.specs.declared.bits.Field.{Field}
 use Rattle.frames.specs.Bits.{field, Fit, joined, joined_onto, parts, sum, total, widths}

@@ -1,6 +1,6 @@
 -- What is written reads back. Assumes nothing.
-use Rattle.std.proofs.Common.{◌≡◌, ℕ, ◌+◌, ◌^◌, ◌<◌, Bool, true, false, ◌||◌, eqb, ltb, List, [], ◌∷◌, ◌++◌, length, get_or, Some, None, Ok, Err, Result, sym, refl, ap, ◌∙◌, subst, arith}
-use native.Mathlib.Nat.{mod-one}
+use Rattle.std.proofs.Common.{◌≡◌, ℕ, ◌^◌, ◌<◌, Bool, true, false, ◌||◌, eqb, ltb, List, [], ◌∷◌, ◌++◌, length, get_or, Some, Ok, Err, Result, refl, ap, ◌∙◌, subst, arith}
+use Rattle.std.proofs.Math.Nat.{mod-one}
 use Rattle.std.proofs.lemmas.Bool.{le-ltb, ltb-false, or_from, or_parts}
 use Rattle.frames.specs.declared.codes.Kind.{Kind}
 use Rattle.frames.specs.declared.codes.Kind.TheVariants.{Request as request, Answer as answer, ClearRequest as clear_request, ClearAnswer as clear_answer, Notice as notice}
@@ -14,7 +14,7 @@ use Rattle.frames.specs.declared.content.Operation.TheVariants.{Hold, Retrieve}
 use Rattle.frames.specs.declared.content.Verdict.TheVariants.{Granted, Declined}
 use Rattle.text.specs.declared.fault.Fault.{Fault}
 use Rattle.frames.specs.declared.reader.Header.{Header}
-use Rattle.frames.specs.Bits.{Fit, joined, octets, parts, total}
+use Rattle.frames.specs.Bits.{Fit, joined, parts}
 use Rattle.frames.specs.Codes.{kind, kind_number, kind_of}
 use Rattle.text.specs.Fault.{in_frame, after, unless}
 use Rattle.frames.specs.Layout.{header_widths, no_call, bars_bit}

@@ -1,6 +1,5 @@
 -- Worked examples of the format: lines of text, and what is read of each. Assumes nothing.
 use Rattle.std.specs.Prelude.{◌≡◌, ℕ, true, false, List, [], ◌∷◌, Ok, Err, codes, Result}
-use Rattle.frames.specs.declared.content.Body.{Body}
 use Rattle.frames.specs.declared.content.Body.TheVariants.{Request, Answer}
 use Rattle.frames.specs.declared.content.Cause.TheVariants.{CallNotThere}
 use Rattle.frames.specs.declared.content.Frame.{Frame}

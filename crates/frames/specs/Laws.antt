@@ -1,5 +1,5 @@
 -- The laws of reading and writing, in the words of the format. Assumes nothing.
-use Rattle.std.specs.Prelude.{◌≡◌, ℕ, List, Ok, Result}
+use Rattle.std.specs.Prelude.{◌≡◌, ℕ, List, Ok}
 use Rattle.frames.specs.declared.content.Frame.{Frame}
 use Rattle.frames.specs.Read.{reads}
 use Rattle.frames.specs.Write.{writes}

@@ -1,4 +1,4 @@
-use Rattle.std.proofs.Common.{sym, ap, ◌∙◌, arith}
+use Rattle.std.proofs.Common.{arith}
 use Rattle.frames.proofs.Widths.{one_shifted}
 use Rattle.frames.proofs.Loops.{next_narrow, joining_fits, joining_next, joining_all, nth}
 use Rattle.frames.proofs.bits.join.Goals as goal

@@ -1,5 +1,5 @@
 use Rattle.std.proofs.Common.{◌-◌, get_or, sym, ◌∙◌, arith}
-use lib.ListN.{length-replicate}
+use Rattle.std.proofs.Math.ListN.{length-replicate}
 use Rattle.frames.proofs.Widths.{one_shifted}
 use Rattle.frames.proofs.Loops.{sum_more, no_sum, splitting_first, width_left, left_few, narrow_part, splitting_next, splitting_all}
 use Rattle.frames.proofs.bits.split.Goals as goal
