@@ -33,23 +33,23 @@ module _ {X : Type 0} (sends : X → List ℕ → X → SendAnswer → Type 0) w
   Below false false a f b r = sends a f b r
 
   -- the patterns stay, and the send is counted
-  pub record Counted (a : Faulty X) (f : List ℕ) (b : Faulty X) (r : SendAnswer) : Type 0 where
+  pub record Counted {g : _} (a : Faulty X g) (f : List ℕ) (b : Faulty X g) (r : SendAnswer) : Type 0 where
     pub lost : b.lost ≡ a.lost
     pub doubled : b.doubled ≡ a.doubled
     pub count : b.count ≡ counted a.count
     pub below : Below (bit a.lost a.count) (bit a.doubled a.count) a.lower f b.lower r
 
   -- 41 comes before everything, and changes nothing
-  abbrev pub FitOrNot : Bool → Faulty X → List ℕ → Faulty X → SendAnswer → Type 0
+  abbrev pub FitOrNot : {g : _} → Bool → Faulty X g → List ℕ → Faulty X g → SendAnswer → Type 0
   FitOrNot true a f b r = (b ≡ a) × (r ≡ Err (in_link 41))
   FitOrNot false a f b r = Counted a f b r
 
   -- what a send does
-  abbrev pub Faulted : ℕ → Faulty X → List ℕ → Faulty X → SendAnswer → Type 0
+  abbrev pub Faulted : {g : _} → ℕ → Faulty X g → List ℕ → Faulty X g → SendAnswer → Type 0
   Faulted longest a f b r = FitOrNot (unfit longest f) a f b r
 
 -- a take is passed on, and counts nothing
-pub record PassedOn {X : Type 0} (takes : X → List ℕ → X → List ℕ → TakeAnswer → Type 0) (a : Faulty X) (m : List ℕ) (b : Faulty X) (n : List ℕ) (r : TakeAnswer) : Type 0 where
+pub record PassedOn {X : Type 0} {g : _} (takes : X → List ℕ → X → List ℕ → TakeAnswer → Type 0) (a : Faulty X g) (m : List ℕ) (b : Faulty X g) (n : List ℕ) (r : TakeAnswer) : Type 0 where
   pub lost : b.lost ≡ a.lost
   pub doubled : b.doubled ≡ a.doubled
   pub count : b.count ≡ a.count

@@ -25,11 +25,11 @@ module _ {X : Type 0} (sends : X → List ℕ → X → SendAnswer → Type 0) (
   below false true a f b (Err e) u k = sent a f b (Err e) k
   below false false a f b r u k = sent a f b r k
 
-  fit_or_not : (t : Bool) (a : Faulty X) (f : List ℕ) (b : Faulty X) (r : SendAnswer) → unfit longest f ≡ t → FitOrNot sends t a f b r → Sent longest f (waits a.lower) (waits b.lower) r
-  fit_or_not true a f b r u k =
+  fit_or_not : {g : _} (t : Bool) (a : Faulty X g) (f : List ℕ) (b : Faulty X g) (r : SendAnswer) → unfit longest f ≡ t → FitOrNot sends t a f b r → Sent longest f (waits a.lower) (waits b.lower) r
+  fit_or_not {g} true a f b r u k =
       subst (λ (s : SendAnswer). Sent longest f (waits a.lower) (waits b.lower) s) (sym k.1)
-      (record { fault = sym (ap (λ t. cond t (in_link 41) (in_link 43)) u); waits = subst (λ (x : Faulty X). Thinned (waits a.lower) (waits x.lower)) (sym k.0) (same (waits a.lower)) })
+      (record { fault = sym (ap (λ t. cond t (in_link 41) (in_link 43)) u); waits = subst (λ (x : Faulty X g). Thinned (waits a.lower) (waits x.lower)) (sym k.0) (same (waits a.lower)) })
   fit_or_not false a f b r u k = below (bit a.lost a.count) (bit a.doubled a.count) a.lower f b.lower r u k.below
 
-  pub faulted : (a : Faulty X) (f : List ℕ) (b : Faulty X) (r : SendAnswer) → Faulted sends longest a f b r → Sent longest f (waits a.lower) (waits b.lower) r
+  pub faulted : {g : _} (a : Faulty X g) (f : List ℕ) (b : Faulty X g) (r : SendAnswer) → Faulted sends longest a f b r → Sent longest f (waits a.lower) (waits b.lower) r
   faulted a f b r k = fit_or_not (unfit longest f) a f b r refl k

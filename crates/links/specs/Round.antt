@@ -2,7 +2,7 @@
 use Rattle.std.specs.Prelude.{◌≡◌, ℕ, zero, suc, ◌+◌, ◌-◌, ◌<◌, ◌≤◌, ◌≢◌, ◌⊎◌, List, [], ◌∷◌, ◌++◌, length, get_or, take, drop, slice_index, slice_index_or, slice_set, refl}
 use Rattle.std.proofs.Common.{sym, ap, ◌∙◌, inl, inr, arith}
 use Rattle.std.proofs.lemmas.List.{same_lists, length-take-le, length-drop, length-append, length-set, get_or-take, get_or-drop, get_or_append_left, get_or-append_right, get_or-set_same, get_or-set_other, get_or_push, length_push, get_or_default}
-use Rattle.std.proofs.str.Laws.{order}
+use Rattle.std.proofs.lemmas.Bool.{cases_lt}
 use Rattle.links.specs.Queue.{round}
 
 -- also where the memory is empty
@@ -27,7 +27,7 @@ at m h n i q d lt (ok, inr e) =
     at_high m h n i d lt (omega arith) ∙ ap (λ k. get_or m k d) back
 
 spot : (m : List ℕ) (h i : ℕ) → h < length m → i < length m → (q : ℕ) × Spot m h i q
-spot m h i hl il = go (order (h + i) (length m))
+spot m h i hl il = go (cases_lt (h + i) (length m))
   where
     go : ((h + i < length m) ⊎ (length m ≤ h + i)) → (q : ℕ) × Spot m h i q
     go (inl low) = (h + i, (low, inl refl))
@@ -53,7 +53,7 @@ pushed m h n p b hl nl sp = same_lists _ _ (long ∙ sym short) each
     short = length_push (round m h n) b ∙ ap (λ k. k + 1) (length_round m h n (omega arith) (omega arith))
 
     each : (k d : ℕ) → k < length (round (slice_set m p b) h (n + 1)) → slice_index_or (round (slice_set m p b) h (n + 1)) k d ≡ slice_index_or (round m h n ++ b ∷ []) k d
-    each k d lt = go (order k n)
+    each k d lt = go (cases_lt k n)
       where
         go : ((k < n) ⊎ (n ≤ k)) → slice_index_or (round (slice_set m p b) h (n + 1)) k d ≡ slice_index_or (round m h n ++ b ∷ []) k d
         go (inl kn) =

@@ -1,6 +1,8 @@
 // Links: what waits in them, what they lose, what they hand out twice.
 // Those above go by the trait `Link` alone, so that what is proved of one link holds of all. `Ring` and `Line` lose nothing, and
 // their promises fix the list that waits; `Faulty` loses and doubles sends over any link. Of text this crate uses faults and digits.
+#![tactic(auto)]
+
 mod checks;
 mod faulty;
 mod line;

@@ -9,7 +9,7 @@ pub invariant_of-result : goal.invariant_of-result
 invariant_of-result c =
     let empty = c.new-queue.ensures.empty in
     let none = ap (unpack in_lines) empty ∙ unpack_none in_lines lawful in
-    (ap (pack in_lines) none ∙ sym empty, (ap (sound in_lines) none, tt))
+    record { packed = ap (pack in_lines) none ∙ sym empty; framed = ap (sound in_lines) none }
 
 pub returns : goal.returns
 returns c = record { waits = ap (unpack in_lines) c.new-queue.ensures.empty ∙ unpack_none in_lines lawful; size = search rules; memory = search rules }

@@ -11,10 +11,11 @@ put-requires c =
 
 pub invariant_of-self : goal.invariant_of-self
 invariant_of-self c =
-    let me = c.args.self.now in (
-      put_is_packed in_lines lawful me.queue me.packed me.framed c.args.frame.now c.put.new.queue c.requires.fit c.type_inv.frame c.put.ensures.held,
-      (put_is_sound in_lines lawful me.queue me.packed me.framed c.args.frame.now c.put.new.queue c.requires.fit c.type_inv.frame c.put.ensures.held, tt),
-    )
+    let me = c.args.self.now in
+    record {
+      packed = put_is_packed in_lines lawful me.queue me.packed me.framed c.args.frame.now c.put.new.queue c.requires.fit c.type_inv.frame c.put.ensures.held;
+      framed = put_is_sound in_lines lawful me.queue me.packed me.framed c.args.frame.now c.put.new.queue c.requires.fit c.type_inv.frame c.put.ensures.held;
+    }
 
 pub returns : goal.returns
 returns c =

@@ -15,10 +15,11 @@ get-n-requires c =
 pub invariant_of-self : goal.invariant_of-self
 invariant_of-self c =
     let me = c.args.self.now in
-    let some : 0 < me.queue.used = search rules in (
-      get_is_packed in_ring lawful me.queue me.packed me.framed some c.get-n.new.queue c.get-n.ensures.held,
-      (get_is_sound in_ring lawful me.queue me.packed me.framed some c.get-n.new.queue c.get-n.ensures.held, tt),
-    )
+    let some : 0 < me.queue.used = search rules in
+    record {
+      packed = get_is_packed in_ring lawful me.queue me.packed me.framed some c.get-n.new.queue c.get-n.ensures.held;
+      framed = get_is_sound in_ring lawful me.queue me.packed me.framed some c.get-n.new.queue c.get-n.ensures.held;
+    }
 
 pub returns : goal.returns
 returns c =

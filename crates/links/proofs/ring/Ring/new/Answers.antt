@@ -9,7 +9,7 @@ pub invariant_of-result : goal.invariant_of-result
 invariant_of-result c =
     let empty = c.new-queue.ensures.empty in
     let none = ap (unpack in_ring) empty ∙ unpack_none in_ring lawful in
-    (ap (pack in_ring) none ∙ sym empty, (ap (sound in_ring) none, tt))
+    record { packed = ap (pack in_ring) none ∙ sym empty; framed = ap (sound in_ring) none }
 
 pub returns : goal.returns
 returns c = record { waits = ap (unpack in_ring) c.new-queue.ensures.empty ∙ unpack_none in_ring lawful; size = search rules; memory = search rules }
