@@ -1,5 +1,5 @@
 -- The writer does not refuse a frame that can be written, so posting it sends it. Assumes nothing.
-use Rattle.std.proofs.Common.{◌≡◌, ℕ, ◌≤◌, Bool, true, false, not, ◌&&◌, ◌||◌, ltb, List, is_some, Some, None, Ok, Option, Result, refl, ap, ◌∙◌, subst, arith, le-ltb}
+use Rattle.std.proofs.Common.{◌≡◌, ℕ, ◌≤◌, Bool, true, false, not, ◌&&◌, ◌||◌, ltb, List, is_some, Some, None, Ok, Option, Result, refl, ap, ◌∙◌, subst, le-ltb}
 use borrow.Author.Tests.{clash}
 use Rattle.std.specs.Result.{result_err}
 use Rattle.frames.specs.Codes.{kind, cause_number}
