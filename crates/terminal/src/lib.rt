@@ -1,6 +1,8 @@
 // The terminal's end of the service: the calls it holds, its one open request, and what an arriving frame does to both.
 // To the crates above it promises that each call's outcome and the state after it equal their definitions, over any link.
 // It uses `signalling` for what may be asked and for frames sent and taken, `links` and `frames` for what those are, and `text` for faults.
+#![tactic(auto)]
+
 mod call;
 mod request;
 mod table;

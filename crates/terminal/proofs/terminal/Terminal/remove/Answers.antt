@@ -10,7 +10,7 @@ invariant_of-self c =
     let me = c.args.self.now in
     let cs = vec_items me.table.calls in
     let gone = c.remove.ensures.items ∙ cut_is c.args.call.0 c.place_of-i.result cs c.place_of-i.ensures (omega (arith, me.table.calls.ok.0, c.len.ensures)) in
-    (omega (arith, me.few), (omega (arith, me.room), (ap (rising me.last) gone ∙ rising_without c.args.call.0 0 me.last cs me.ids, (me.top, (me.asked, tt)))))
+    record { few = omega (arith, me.few); room = omega (arith, me.room); ids = ap (rising me.last) gone ∙ rising_without c.args.call.0 0 me.last cs me.ids; top = me.top; asked = me.asked }
 
 pub returns-then-i-len : goal.returns-then-i-len
 returns-then-i-len c =

@@ -6,4 +6,4 @@ use Rattle.terminal.proofs.terminal.Terminal.request.Goals as goal
 pub invariant_of-self : goal.invariant_of-self
 invariant_of-self g c =
     let me = c.args.self.now in
-    (me.few, (me.room, (me.ids, (me.top, (opened_known (model me) c.args.ask c.args.call tt c.opening-request.result me.ids c.in_ok-check_request.ensures c.opening-request.ensures, tt)))))
+    record { few = me.few; room = me.room; ids = me.ids; top = me.top; asked = opened_known (model me) c.args.ask c.args.call tt c.opening-request.result me.ids c.in_ok-check_request.ensures c.opening-request.ensures }

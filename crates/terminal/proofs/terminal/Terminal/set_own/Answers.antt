@@ -10,7 +10,7 @@ invariant_of-self c =
     let me = c.args.self.now in
     let cs = vec_items me.table.calls in
     let same = wrote (own_to c.args.on) c.args.call.0 c.place_of-i.result cs c.at.result.now c.place_of-i.ensures (omega (arith, me.table.calls.ok.0, c.len.ensures)) c.at.ensures.value in
-    (me.few, (me.room, (ap (rising me.last) same ∙ rising_change (own_to c.args.on) (λ _. refl) c.args.call.0 0 me.last cs ∙ me.ids, (me.top, (me.asked, tt)))))
+    record { few = me.few; room = me.room; ids = ap (rising me.last) same ∙ rising_change (own_to c.args.on) (λ _. refl) c.args.call.0 0 me.last cs ∙ me.ids; top = me.top; asked = me.asked }
 
 pub returns-then-i-len : goal.returns-then-i-len
 returns-then-i-len c =
