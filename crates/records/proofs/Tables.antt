@@ -1,10 +1,9 @@
 -- Laws of a list of records: the record at a call's place, and what a change, an added and a removed record leave of the order and of the sums. Assumes nothing.
-use Rattle.std.proofs.Common.{◌≡◌, ℕ, suc, ◌+◌, ◌<◌, ◌≤◌, Bool, true, false, cond, ◌&&◌, eqb, ltb, leb, List, [], ◌∷◌, ◌++◌, length, get_or, set, Some, None, Option, sym, refl, ap, ◌∙◌, subst, add-one, arith, ltb-true, lt-ltb, ne_eqb, eqb-true, le-leb, leb-true}
-use borrow.Author.Tests.{eqb-false}
+use Rattle.std.proofs.Common.{◌≡◌, ℕ, suc, ◌+◌, ◌<◌, ◌≤◌, Bool, true, false, cond, ◌&&◌, eqb, ltb, List, [], ◌∷◌, ◌++◌, length, get_or, set, Some, None, sym, refl, ap, ◌∙◌, subst, add-one, arith, ltb-true, lt-ltb, ne_eqb, eqb-true, le-leb, leb-true}
 use Rattle.std.specs.List.{remove}
 use Rattle.records.specs.Changes.{find, change, without}
 use Rattle.records.specs.Legs.{one, standing, is_on_hold, channels}
-use Rattle.records.specs.Questions.{place, rising_from, rising, held_by, channels_of}
+use Rattle.records.specs.Questions.{place, rising_from, held_by, channels_of}
 use Rattle.records.specs.declared.legs.Record.{Record}
 
 and_left : (a b : Bool) → (a && b) ≡ true → a ≡ true

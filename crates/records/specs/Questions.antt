@@ -1,5 +1,5 @@
 -- Questions asked of a list of records: where a call stands, how many a user has on hold, who is next in line. Assumes nothing.
-use Rattle.std.specs.Prelude.{◌≡◌, ℕ, ◌+◌, Bool, true, false, cond, ◌&&◌, List, [], ◌∷◌, Some, None, Option, ◌==◌, nat_le, nat_lt}
+use Rattle.std.specs.Prelude.{ℕ, ◌+◌, Bool, true, false, cond, ◌&&◌, List, [], ◌∷◌, Some, None, Option, ◌==◌, nat_le, nat_lt}
 use Rattle.register.specs.declared.user.User.{User}
 use Rattle.records.specs.Legs.{one, side_of, leg_on, other_side, standing, is_on_hold, channels}
 use Rattle.records.specs.declared.legs.Record.{Record}

@@ -9,28 +9,28 @@ use Rattle.switch.specs.declared.switch.Switch.{Switch}
 use Rattle.switch.proofs.Sound.{Sound}
 use Rattle.switch.proofs.SoundRecords.{channels_live}
 
-pub sound_switch : {R : Type 0} (s : Switch R) → Sound (state s)
+pub sound_switch : {R : Type 0} {g : _} (s : Switch R g) → Sound (state s)
 sound_switch s =
     record { few_sessions = omega (arith, s.sessions, s.board.sessions.ok.0); few_records = omega (arith, s.records, s.board.records.ok.0); users = s.users; ids = s.ids; top = s.top; legs = s.legs; counted = s.used ∙ sym (channels_live (vec_items s.board.sessions) (vec_items s.board.records) s.legs); answers = s.answers }
 
--- the facts of a switch with a board, in their order
+-- the facts of a switch with a board, by their names
 abbrev pub Facts : Board → Type 0
-Facts b =
-    (vec_len b.sessions ≤ 32)
-    × ((32 ≤ vec_capacity b.sessions)
-    × ((vec_len b.records ≤ 64)
-    × ((64 ≤ vec_capacity b.records)
-    × ((apart (vec_items b.sessions) ≡ true)
-    × ((rising b.last (vec_items b.records) ≡ true)
-    × ((b.last ≤ 16383)
-    × ((lawful (vec_items b.sessions) (vec_items b.records) ≡ true)
-    × ((b.pool.used ≡ legs_not_on_hold (vec_items b.records))
-    × ((all_answerable (vec_items b.sessions) ≡ true)
-    × Unit {0})))))))))
+Facts b = record {
+  sessions : vec_len b.sessions ≤ 32;
+  seats : 32 ≤ vec_capacity b.sessions;
+  records : vec_len b.records ≤ 64;
+  room : 64 ≤ vec_capacity b.records;
+  users : apart (vec_items b.sessions) ≡ true;
+  ids : rising b.last (vec_items b.records) ≡ true;
+  top : b.last ≤ 16383;
+  legs : lawful (vec_items b.sessions) (vec_items b.records) ≡ true;
+  used : b.pool.used ≡ legs_not_on_hold (vec_items b.records);
+  answers : all_answerable (vec_items b.sessions) ≡ true;
+}
 
-pub facts : {R : Type 0} (s : Switch R) (b : Board) → vec_capacity b.sessions ≡ vec_capacity s.board.sessions → vec_capacity b.records ≡ vec_capacity s.board.records → Sound (model b) → Facts b
+pub facts : {R : Type 0} {g : _} (s : Switch R g) (b : Board) → vec_capacity b.sessions ≡ vec_capacity s.board.sessions → vec_capacity b.records ≡ vec_capacity s.board.records → Sound (model b) → Facts b
 facts s b seats room h =
-    (omega (arith, h.few_sessions, b.sessions.ok.0), (omega (arith, s.seats, seats), (omega (arith, h.few_records, b.records.ok.0), (omega (arith, s.room, room), (h.users, (h.ids, (h.top, (h.legs, (h.counted ∙ channels_live (vec_items b.sessions) (vec_items b.records) h.legs, (h.answers, tt))))))))))
+    record { sessions = omega (arith, h.few_sessions, b.sessions.ok.0); seats = omega (arith, s.seats, seats); records = omega (arith, h.few_records, b.records.ok.0); room = omega (arith, s.room, room); users = h.users; ids = h.ids; top = h.top; legs = h.legs; used = h.counted ∙ channels_live (vec_items b.sessions) (vec_items b.records) h.legs; answers = h.answers }
 
 -- a new switch
 none : {A : Type 0} (xs : List A) → length xs ≡ 0 → xs ≡ []
@@ -55,4 +55,4 @@ pub parts_facts : (p : Parts) → Facts p.board
 parts_facts p =
     let h = subst Sound (sym (parts_model p)) (sound_fresh p.board.pool.size) in
     let b = p.board in
-    (omega (arith, p.sessions), (p.seats, (omega (arith, p.records), (p.room, (h.users, (h.ids, (h.top, (h.legs, (h.counted ∙ channels_live (vec_items b.sessions) (vec_items b.records) h.legs, (h.answers, tt))))))))))
+    record { sessions = omega (arith, p.sessions); seats = p.seats; records = omega (arith, p.records); room = p.room; users = h.users; ids = h.ids; top = h.top; legs = h.legs; used = h.counted ∙ channels_live (vec_items b.sessions) (vec_items b.records) h.legs; answers = h.answers }

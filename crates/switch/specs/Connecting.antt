@@ -1,5 +1,5 @@
 -- Connecting a call. Assumes nothing.
-use Rattle.std.specs.Prelude.{◌+◌, not, ◌&&◌, ◌||◌, List, [], ◌∷◌, ◌++◌, length, Ok, Err, Result, nat_le}
+use Rattle.std.specs.Prelude.{◌+◌, not, ◌&&◌, ◌||◌, [], ◌∷◌, ◌++◌, length, Ok, Err, Result, nat_le}
 use Rattle.frames.specs.Layout.{no_call}
 use Rattle.frames.specs.declared.content.CallId.{CallId}
 use Rattle.register.specs.User.{is_user, same}

@@ -1,5 +1,5 @@
 -- Opening a session. Assumes nothing.
-use Rattle.std.specs.Prelude.{true, not, List, [], ◌∷◌, ◌++◌, length, is_some, None, Ok, Err, Result, nat_le}
+use Rattle.std.specs.Prelude.{true, not, [], ◌∷◌, ◌++◌, length, is_some, None, Ok, Err, Result, nat_le}
 use Rattle.register.specs.User.{is_user}
 use Rattle.register.specs.declared.user.User.{User}
 use Rattle.text.specs.Fault.{in_switch, unless}

@@ -5,7 +5,6 @@ use Rattle.frames.specs.declared.content.Body.{Body}
 use Rattle.frames.specs.declared.content.CallId.{CallId}
 use Rattle.frames.specs.declared.content.Cause.TheVariants.{NotSubscribed, LimitReached, CallNotThere, AlreadyOnHold, NotOnHold, NoChannel}
 use Rattle.frames.specs.declared.content.Frame.{Frame}
-use Rattle.frames.specs.declared.content.Operation.{Operation}
 use Rattle.frames.specs.declared.content.Operation.TheVariants.{Hold, Retrieve}
 use Rattle.frames.specs.declared.content.Verdict.{Verdict}
 use Rattle.frames.specs.declared.content.Verdict.TheVariants.{Granted, Declined}

@@ -17,11 +17,11 @@ pub record Model : Type 0 where
 abbrev pub model : Board → Model
 model b = record { sessions = vec_items b.sessions; records = vec_items b.records; last = b.last; used = b.pool.used; size = b.pool.size }
 
-abbrev pub state : {R : Type 0} → Switch R → Model
+abbrev pub state : {R : Type 0} {g : _} → Switch R g → Model
 state s = model s.board
 
 -- the register that it was made with
-abbrev pub kept_register : {R : Type 0} → Switch R → R
+abbrev pub kept_register : {R : Type 0} {g : _} → Switch R g → R
 kept_register s = s.register
 
 -- a new switch with a pool of a size

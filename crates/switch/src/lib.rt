@@ -1,6 +1,8 @@
 // The switch's end of the service: sessions, call records, the answers to requests, and the notices.
 // To the crates above it promises that each call's outcome and the state after it equal their definitions, over any link and any
 // register, and the laws of its state. It uses `records` for calls, `signalling` for frames over links, `register` and `pool`.
+#![tactic(auto)]
+
 mod board;
 mod session;
 mod switch;

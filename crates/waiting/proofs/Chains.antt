@@ -25,7 +25,7 @@ standing v [] e = absurd (both_ways false refl e)
 standing v (x ∷ xs) e = go (same x.0 v.0) refl e (standing v xs)
   where
     go : (b : Bool) → same x.0 v.0 ≡ b → (b || stands_in v.0 xs) ≡ true → (stands_in v.0 xs ≡ true → Contains xs v) → Contains (x ∷ xs) v
-    go true t e ih = (0, omega arith, λ d. user_is x v (eqb-true x.0 v.0 t))
+    go true t e ih = (0, omega arith, user_is x v (eqb-true x.0 v.0 t))
     go false t e ih = let h : Contains xs v = ih e in (suc h.0, omega (arith, h.1), h.2)
 
 absent : (v : User) (line : List User) → stands_in v.0 line ≡ false → (i : ℕ) (d : User) → i < length line → get_or line i d ≡ v → ⊥
