@@ -32,6 +32,7 @@ use Rattle.law.proofs.Standings.Did.{held, not_held_off, not_held_gone, not_held
 use Rattle.law.proofs.Thin.{Content, said, All, Then, Added, all_thin, then_thin, all_map, then_map, then_turn, all_head, then_head, all_added, then_added, telling_added}
 use Rattle.law.proofs.Thin.All.{all_none}
 use Rattle.law.proofs.Thin.Then.{now}
+use Rattle.law.proofs.Once.{Once}
 use Rattle.law.proofs.Table.{has, shows, settle, mark_by, mark_after, shows_add, has_add, shows_settle, shows_settle_here, settle_alike, Alike, informed_same}
 
 -- a mark of the terminal agrees with a standing
@@ -279,11 +280,11 @@ module _ (st : ℕ → Standing) where
   agree_gone x m e = subst (λ s. Agree s m) (sym e) tt
 
   -- the settled marks stay right where the table stays alike, or the call is gone
-  settled_by : (a : Body) (d : ℕ) (xs ys : List Call) → ((x : ℕ) → Alike d xs ys x ⊎ (st x ≡ gone)) → Settled st (settle a d xs) → Settled st (settle a d ys)
-  settled_by a d xs ys h s x = go (h x)
+  settled_by : (a : Body) (d : ℕ) (xs ys : List Call) → Once xs → Once ys → ((x : ℕ) → Alike d xs ys x ⊎ (st x ≡ gone)) → Settled st (settle a d xs) → Settled st (settle a d ys)
+  settled_by a d xs ys o o' h s x = go (h x)
     where
       go : Alike d xs ys x ⊎ (st x ≡ gone) → Agree (st x) (shows (settle a d ys) x)
-      go (inl e) = subst (Agree (st x)) (sym (settle_alike a d x xs ys e)) (s x)
+      go (inl e) = subst (Agree (st x)) (sym (settle_alike a d x xs ys o o' e)) (s x)
       go (inr e) = agree_gone x (shows (settle a d ys) x) e
 
   added : (c : CallId) (xs : List Call) → Settled st xs → Settled st (xs ++ unmarked c ∷ [])
@@ -301,12 +302,12 @@ module _ (st : ℕ → Standing) where
       go (inl e) = inr (rw e.1 at h)
       go (inr e) = inl (shows_add c x xs, λ q. absurd (e.1 q))
 
-  pub phase_connect : {l : Bool} {kept : Option Frame} {t : Model} {up down : Waiting} (z : Result Unit Fault) (c : CallId) → Phase st l kept t up down → Phase st l kept (connects z t c) up down
-  phase_connect (Ok u) c (resting {xs = xs} a e k s) = resting a e k (added c xs s)
-  phase_connect (Ok u) c (waiting {xs = xs} {r = r} a e k w s) = waiting a e k (still_known c r.call.0 xs w) (added c xs s)
-  phase_connect (Ok u) c (handled {xs = xs} {r = r} {a = y} i a e w s) =
-      handled i a e (still_known c r.call.0 xs w) (settled_by y r.call.0 xs (xs ++ unmarked c ∷ []) (added_alike c r.call.0 xs w) s)
-  phase_connect (Err x) c h = h
+  pub phase_connect : {l : Bool} {kept : Option Frame} {t : Model} {up down : Waiting} (z : Result Unit Fault) (c : CallId) → Once t.calls → Once (connects z t c).calls → Phase st l kept t up down → Phase st l kept (connects z t c) up down
+  phase_connect (Ok u) c o o' (resting {xs = xs} a e k s) = resting a e k (added c xs s)
+  phase_connect (Ok u) c o o' (waiting {xs = xs} {r = r} a e k w s) = waiting a e k (still_known c r.call.0 xs w) (added c xs s)
+  phase_connect (Ok u) c o o' (handled {xs = xs} {r = r} {a = y} i a e w s) =
+      handled i a e (still_known c r.call.0 xs w) (settled_by y r.call.0 xs (xs ++ unmarked c ∷ []) o o' (added_alike c r.call.0 xs w) s)
+  phase_connect (Err x) c o o' h = h
 
   -- requesting
   checked_has : (k : Ask) (c : ℕ) (xs : List Call) (u : Unit) → call_checked k (find c xs) ≡ Ok u → has xs c ≡ true
@@ -392,22 +393,22 @@ module _ (st : ℕ → Standing) where
       go (inr e) = inr e
 
   -- a notice is heard in every phase alike
-  hear_phase : {l : Bool} {kept : Option Frame} {t : Model} {up down : Waiting} (o : Option Call) (c : CallId) (w : News) → NewsTrue st c.0 w → Phase st l kept t up down
-      → Phase st l kept (state_of (heard o c w) t) up down
-  hear_phase (Some x) c w h (resting {xs = xs} a e y s) = resting a e y (learnt w c.0 xs h s)
-  hear_phase (Some x) c w h (waiting {xs = xs} {r = r} a e y k s) = waiting a e y (learnt_known w c.0 r.call.0 xs h k) (learnt w c.0 xs h s)
-  hear_phase (Some x) c w h (handled {xs = xs} {r = r} {a = v} i a e k s) =
-      handled i a e (learnt_known w c.0 r.call.0 xs h k) (settled_by v r.call.0 xs (informed w c.0 xs) (informed_alike w c.0 r.call.0 xs h) s)
-  hear_phase None c w h p = p
+  hear_phase : {l : Bool} {kept : Option Frame} {t : Model} {up down : Waiting} (q : Option Call) (c : CallId) (w : News) → NewsTrue st c.0 w → Once t.calls → Once (state_of (heard q c w) t).calls → Phase st l kept t up down
+      → Phase st l kept (state_of (heard q c w) t) up down
+  hear_phase (Some x) c w h o o' (resting {xs = xs} a e y s) = resting a e y (learnt w c.0 xs h s)
+  hear_phase (Some x) c w h o o' (waiting {xs = xs} {r = r} a e y k s) = waiting a e y (learnt_known w c.0 r.call.0 xs h k) (learnt w c.0 xs h s)
+  hear_phase (Some x) c w h o o' (handled {xs = xs} {r = r} {a = v} i a e k s) =
+      handled i a e (learnt_known w c.0 r.call.0 xs h k) (settled_by v r.call.0 xs (informed w c.0 xs) o o' (informed_alike w c.0 r.call.0 xs h) s)
+  hear_phase None c w h o o' p = p
 
-  news_phase : {l : Bool} {kept : Option Frame} {t : Model} {up down : Waiting} (f : Frame) (o : Option Request) (a : Body) → NewsOf st f.call.0 a → Phase st l kept t up down
-      → Phase st l kept (state_of (effect_of t f o a) t) up down
-  news_phase {t = t} f None (Notice w) h p = hear_phase (find f.call.0 t.calls) f.call w h p
-  news_phase {t = t} f (Some q) (Notice w) h p = hear_phase (find f.call.0 t.calls) f.call w h p
-  news_phase f o (Answer k v) h p = absurd h
-  news_phase f o ClearAnswer h p = absurd h
-  news_phase f o (request_body k) h p = absurd h
-  news_phase f o ClearRequest h p = absurd h
+  news_phase : {l : Bool} {kept : Option Frame} {t : Model} {up down : Waiting} (f : Frame) (q : Option Request) (a : Body) → NewsOf st f.call.0 a → Once t.calls → Once (state_of (effect_of t f q a) t).calls → Phase st l kept t up down
+      → Phase st l kept (state_of (effect_of t f q a) t) up down
+  news_phase {t = t} f None (Notice w) h o o' p = hear_phase (find f.call.0 t.calls) f.call w h o o' p
+  news_phase {t = t} f (Some q) (Notice w) h o o' p = hear_phase (find f.call.0 t.calls) f.call w h o o' p
+  news_phase f q (Answer k v) h o o' p = absurd h
+  news_phase f q ClearAnswer h o o' p = absurd h
+  news_phase f q (request_body k) h o o' p = absurd h
+  news_phase f q ClearRequest h o o' p = absurd h
 
   -- an answer with the other bit changes nothing
   old_same : (t : Model) (f : Frame) (o : Option Request) (a : Body) → f.exchange ≡ not t.exchange → is_some (answered_ask a) ≡ true → state_of (effect_of t f o a) t ≡ t
@@ -419,10 +420,10 @@ module _ (st : ℕ → Standing) where
   old_same t f o ClearRequest e i = absurd (false≢true i)
   old_same t f o (Notice w) e i = absurd (false≢true i)
 
-  early_phase : {l : Bool} {kept : Option Frame} {t : Model} {up down : Waiting} (f : Frame) → Early (not t.exchange) st (Ok f) → Phase st l kept t up down
+  early_phase : {l : Bool} {kept : Option Frame} {t : Model} {up down : Waiting} (f : Frame) → Early (not t.exchange) st (Ok f) → Once t.calls → Once (receives t (Ok (Some f))).calls → Phase st l kept t up down
       → Phase st l kept (receives t (Ok (Some f))) up down
-  early_phase {l} {kept} {t} {up} {down} f (inl h) p = subst (λ z. Phase st l kept z up down) (sym (old_same t f t.request f.body h.0 h.1)) p
-  early_phase {t = t} f (inr h) p = news_phase f t.request f.body h p
+  early_phase {l} {kept} {t} {up} {down} f (inl h) o o' p = subst (λ z. Phase st l kept z up down) (sym (old_same t f t.request f.body h.0 h.1)) p
+  early_phase {t = t} f (inr h) o o' p = news_phase f t.request f.body h o o' p
 
   late_asks : (r : Request) (b : Bool) {up : Waiting} → All (TheAsk r b) up → All (Asks b) up
   late_asks r b a = all_map (λ f e. subst (Asks b) (sym e) refl) a
@@ -448,23 +449,23 @@ module _ (st : ℕ → Standing) where
 
   late_phase : (xs : List Call) (n : ℕ) (r : Request) (b : Bool) (y : Body) (up down : Waiting) (f : Frame) → answered_ask y ≡ Some r.ask → All (TheAsk r b) up
       → Late (the_answer r b y) st (Ok f) → All (Late (the_answer r b y) st) down → Known st xs r.call.0 → Settled st (settle y r.call.0 xs)
-      → Phase st b (Some (the_answer r b y)) (receives (term xs n (Some r) b) (Ok (Some f))) up down
-  late_phase xs n r b y up down f i a (inl h) e w s =
+      → Once xs → Once (receives (term xs n (Some r) b) (Ok (Some f))).calls → Phase st b (Some (the_answer r b y)) (receives (term xs n (Some r) b) (Ok (Some f))) up down
+  late_phase xs n r b y up down f i a (inl h) e w s o o' =
       subst (λ f. Phase st b (Some (the_answer r b y)) (receives (term xs n (Some r) b) (Ok (Some f))) up down) (sym h)
       (subst (λ t. Phase st b (Some (the_answer r b y)) t up down) (sym (closes xs n r b y i))
       (closing b (late_asks r b a) (all_map (late_early r b y i) e) (refl, some_true (answered_ask y) i) s))
-  late_phase xs n r b y up down f i a (inr h) e w s = news_phase f (Some r) f.body h (handled i a (now e) w s)
+  late_phase xs n r b y up down f i a (inr h) e w s o o' = news_phase f (Some r) f.body h o o' (handled i a (now e) w s)
 
-  pub phase_receive : {l : Bool} {kept : Option Frame} {t : Model} {up down : Waiting} (bytes : List ℕ) (f : Frame) → said bytes ≡ Ok f
+  pub phase_receive : {l : Bool} {kept : Option Frame} {t : Model} {up down : Waiting} (bytes : List ℕ) (f : Frame) → said bytes ≡ Ok f → Once t.calls → Once (receives t (Ok (Some f))).calls
       → Phase st l kept t up (bytes ∷ down) → Phase st l kept (receives t (Ok (Some f))) up down
-  phase_receive bytes f i (resting {b = b} a e y s) = let h = all_head e in early_phase f (subst (Early (not b) st) i h.0) (resting a h.1 y s)
-  phase_receive bytes f i (waiting {b = b} a e y w s) = let h = all_head e in early_phase f (subst (Early (not b) st) i h.0) (waiting a h.1 y w s)
-  phase_receive {l} {kept} {t} {up} {down} bytes f i (handled {xs = xs} {n = n} {r = r} {b = b} {a = v} j a e w s) = go (then_head e)
+  phase_receive bytes f i o o' (resting {b = b} a e y s) = let h = all_head e in early_phase f (subst (Early (not b) st) i h.0) o o' (resting a h.1 y s)
+  phase_receive bytes f i o o' (waiting {b = b} a e y w s) = let h = all_head e in early_phase f (subst (Early (not b) st) i h.0) o o' (waiting a h.1 y w s)
+  phase_receive {l} {kept} {t} {up} {down} bytes f i o o' (handled {xs = xs} {n = n} {r = r} {b = b} {a = v} j a e w s) = go (then_head e)
     where
       go : (Early (not b) st (said bytes) × Then (Early (not b) st) (Late (the_answer r b v) st) down) ⊎ (Late (the_answer r b v) st (said bytes) × All (Late (the_answer r b v) st) down)
           → Phase st b (Some (the_answer r b v)) (receives (term xs n (Some r) b) (Ok (Some f))) up down
-      go (inl h) = early_phase f (subst (Early (not b) st) i h.0) (handled j a h.1 w s)
-      go (inr h) = late_phase xs n r b v up down f j a (subst (Late (the_answer r b v) st) i h.0) h.1 w s
+      go (inl h) = early_phase f (subst (Early (not b) st) i h.0) o o' (handled j a h.1 w s)
+      go (inr h) = late_phase xs n r b v up down f j a (subst (Late (the_answer r b v) st) i h.0) h.1 w s o o'
 
   -- a frame that is taken from a link is gone from it
   pub phase_dropped : {l : Bool} {kept : Option Frame} {t : Model} {up down : Waiting} (bytes : List ℕ) → Phase st l kept t up (bytes ∷ down) → Phase st l kept t up down
@@ -519,8 +520,8 @@ module _ (st : ℕ → Standing) where
 module _ (st st' : ℕ → Standing) where
   fresh_phase : (xs : List Call) (n : ℕ) (r : Request) (b : Bool) (y : Body) (up down down' : Waiting) → All (TheAsk r b) up → All (Early (not b) st) down
       → Known st xs r.call.0 → Settled st xs → Did (body_for r.ask) y (st r.call.0) (st' r.call.0) → ((x : ℕ) → (r.call.0 ≡ x → ⊥) → Drifts (st x) (st' x))
-      → Added (the_answer r b y) down down' → Phase st' b (Some (the_answer r b y)) (term xs n (Some r) b) up down'
-  fresh_phase xs n r b y up down down' u e w s did d q =
+      → Added (the_answer r b y) down down' → Once xs → Phase st' b (Some (the_answer r b y)) (term xs n (Some r) b) up down'
+  fresh_phase xs n r b y up down down' u e w s did d q o =
       handled (did_ask did ∙ ask_of_body r.ask) u
       (then_added {P = Early (not b) st'} {Q = Late (the_answer r b y) st'} (then_turn (all_map (early_drift st st' goes' (not b)) e)) (inl refl) q)
       (known_drift st st' goes' xs r.call.0 w) settles
@@ -538,18 +539,18 @@ module _ (st st' : ℕ → Standing) where
           go : ((eqb r.call.0 x ≡ true) × (r.call.0 ≡ x)) ⊎ ((eqb r.call.0 x ≡ false) × (r.call.0 ≡ x → ⊥)) → Agree (st' x) (shows (settle y r.call.0 xs) x)
           go (inl i) =
               subst (λ z. Agree (st' z) (shows (settle y r.call.0 xs) z)) i.1
-              (subst (Agree (st' r.call.0)) (sym (shows_settle_here y r.call.0 xs)) (did_agree (has xs r.call.0) (shows xs r.call.0) did w (s r.call.0)))
+              (subst (Agree (st' r.call.0)) (sym (shows_settle_here y r.call.0 xs o)) (did_agree (has xs r.call.0) (shows xs r.call.0) did w (s r.call.0)))
           go (inr i) = subst (Agree (st' x)) (sym (shows_settle y r.call.0 x xs i.1)) (agree_drift (shows xs x) (d x i.1) (s x))
 
   same_frame : {f g : Frame} → ◌≡◌ {A = Content} (Ok f) (Ok g) → f ≡ g
   same_frame e = cc
 
-  pub phase_fresh : {l : Bool} {kept : Option Frame} {t : Model} {up down down' : Waiting} (bytes : List ℕ) (f : Frame) (y : Body) → said bytes ≡ Ok f
+  pub phase_fresh : {l : Bool} {kept : Option Frame} {t : Model} {up down down' : Waiting} (bytes : List ℕ) (f : Frame) (y : Body) → said bytes ≡ Ok f → Once t.calls
       → Phase st l kept t (bytes ∷ up) down → beq f.exchange l ≡ false → Did f.body y (st f.call.0) (st' f.call.0)
       → ((x : ℕ) → (f.call.0 ≡ x → ⊥) → Drifts (st x) (st' x)) → Added (record { exchange = f.exchange; call = f.call; body = y }) down down'
       → Phase st' f.exchange (Some (record { exchange = f.exchange; call = f.call; body = y })) t up down'
-  phase_fresh bytes f y i (resting {b = b} u e k s) n did d q = absurd (beq_apart (not b) f.exchange (subst (Asks (not b)) i (all_head u).0) n)
-  phase_fresh {l} {kept} {t} {up} {down} {down'} bytes f y i (waiting {xs = xs} {n = m} {r = r} {b = b} u e k w s) n did d q = go (then_head u)
+  phase_fresh bytes f y i o (resting {b = b} u e k s) n did d q = absurd (beq_apart (not b) f.exchange (subst (Asks (not b)) i (all_head u).0) n)
+  phase_fresh {l} {kept} {t} {up} {down} {down'} bytes f y i o (waiting {xs = xs} {n = m} {r = r} {b = b} u e k w s) n did d q = go (then_head u)
     where
       go : (Asks (not b) (said bytes) × Then (Asks (not b)) (TheAsk r b) up) ⊎ (TheAsk r b (said bytes) × All (TheAsk r b) up)
           → Phase st' f.exchange (Some (record { exchange = f.exchange; call = f.call; body = y })) (term xs m (Some r) b) up down'
@@ -559,6 +560,6 @@ module _ (st st' : ℕ → Standing) where
           → Added (record { exchange = g.exchange; call = g.call; body = y }) down down'
           → Phase st' g.exchange (Some (record { exchange = g.exchange; call = g.call; body = y })) (term xs m (Some r) b) up down')
           (sym (same_frame (sym i ∙ h.0)))
-          (fresh_phase xs m r b y up down down' h.1 e w s) did d q
-  phase_fresh {l} {kept} {t} {up} {down} {down'} bytes f y i (handled {r = r} {b = b} j u e w s) n did d q =
+          (λ did d q. fresh_phase xs m r b y up down down' h.1 e w s did d q o) did d q
+  phase_fresh {l} {kept} {t} {up} {down} {down'} bytes f y i o (handled {r = r} {b = b} j u e w s) n did d q =
       absurd (beq_apart b f.exchange (ap (λ (g : Frame). g.exchange) (same_frame (sym i ∙ (all_head u).0))) n)

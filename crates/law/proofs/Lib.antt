@@ -3,6 +3,7 @@ pub mod Faces
 pub mod Ledger
 pub mod Meant
 pub mod Moves
+pub mod Once
 pub mod Records
 pub mod Standings
 pub mod Steps

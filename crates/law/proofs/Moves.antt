@@ -38,7 +38,7 @@ use Rattle.switch.specs.declared.told.Handled.TheVariants.{Answered, Cleared}
 use Rattle.text.specs.Fault.{in_switch, unless}
 use Rattle.text.specs.declared.fault.Fault.{Fault}
 use Rattle.law.specs.History.{Deed, all_calls, handled_deeds, connected_deeds, cleared_deeds, total, live, on_hold}
-use Rattle.law.specs.History.Deed.{connected, cleared_by_party, cleared_by_network}
+use Rattle.law.specs.History.Deed.{cleared_by_party, cleared_by_network}
 use Rattle.law.proofs.Standings.{Standing, Did, NewsTrue}
 use Rattle.law.proofs.Standings.Standing.{on, off, gone}
 use Rattle.law.proofs.Standings.Did.{held as did_hold, not_held_off, not_held_gone, not_held_on, back as did_back, not_back_off, not_back_gone, not_back_on, over as did_clear, not_over}

@@ -16,7 +16,7 @@ use Rattle.records.specs.declared.legs.Standing.TheVariants.{Absent, Talking, On
 use Rattle.register.specs.User.{same}
 use Rattle.register.specs.declared.user.User.{User}
 use Rattle.switch.specs.Clearing.{party_legs}
-use Rattle.switch.specs.Serving.{carry_out, retrieve_verdict, on_hold as hold_told, on_retrieve, standing_at, holds, serve_checked, Serves, ServingBy}
+use Rattle.switch.specs.Serving.{carry_out, retrieve_verdict, on_hold as hold_told, on_retrieve, standing_at, serve_checked, Serves, ServingBy}
 use Rattle.switch.specs.Serving.Carried.{carried}
 use Rattle.switch.specs.State.{Model}
 use Rattle.switch.specs.Tables.{session}
@@ -237,7 +237,7 @@ module _ (limit : ℕ → ℕ) (size : ℕ) (u : User) (ds : List Deed) (p : Sta
 
 start : (limit : ℕ → ℕ) (size u : ℕ) → Inv limit size u [] (fresh_state size)
 unfolding find session
-start limit size u = record { books = fresh_books limit size; phase = phase_new (standing u (faces (fresh_state size).switch) 0) (λ c. free_at u c) }
+start limit size u = record { books = fresh_books limit size; phase = phase_new (standing u (faces (fresh_state size).switch) 0) (λ c. free_at u c); rising = refl }
 
 run_inv : (limit : ℕ → ℕ) (size : ℕ) (u : User) {es : List Event} {p : State} → Run limit size u es p → Inv limit size u.0 (deeds es) p
 run_inv limit size u fresh = start limit size u.0

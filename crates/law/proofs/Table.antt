@@ -18,6 +18,7 @@ use Rattle.terminal.specs.State.{unmarked}
 use Rattle.terminal.specs.declared.call.Call.{Call}
 use Rattle.terminal.specs.declared.told.Reply.TheVariants.{Cleared}
 use Rattle.law.specs.Law.{marked}
+use Rattle.law.proofs.Once.{Once}
 
 -- a call is in the table, and its own mark is set there
 unfoldable pub has : List Call → ℕ → Bool
@@ -41,10 +42,6 @@ find_changed f k n (c ∷ cs) = let ih = find_changed f k n cs in let i = k c in
 find_without : (n x : ℕ) (cs : List Call) → (n ≡ x → ⊥) → find x (without n cs) ≡ find x cs
 find_without n x [] d = refl
 find_without n x (c ∷ cs) d = let ih = find_without n x cs d in grind (arith, nat_tests)
-
-find_gone : (n : ℕ) (cs : List Call) → find n (without n cs) ≡ None
-find_gone n [] = refl
-find_gone n (c ∷ cs) = let ih = find_gone n cs in grind (arith, nat_tests)
 
 abbrev first_of : Option Call → Option Call → Option Call
 first_of None q = q
@@ -99,9 +96,9 @@ without_same : (n x : ℕ) (cs : List Call) → (n ≡ x → ⊥) → (has (with
 unfolding has shows
 without_same n x cs d = let i = find_without n x cs d in (ap is_some i, ap marked i)
 
-shows_without : (n : ℕ) (cs : List Call) → shows (without n cs) n ≡ false
+shows_without : (n : ℕ) (cs : List Call) → Once cs → shows (without n cs) n ≡ false
 unfolding shows
-shows_without n cs = ap marked (find_gone n cs)
+shows_without n cs o = ap marked (o n)
 
 pub shows_add : (c : CallId) (x : ℕ) (cs : List Call) → shows (cs ++ unmarked c ∷ []) x ≡ shows cs x
 unfolding shows
@@ -156,13 +153,13 @@ shows_cause AlreadyOnHold n x cs d = refl
 shows_cause NotOnHold n x cs d = refl
 shows_cause NoChannel n x cs d = refl
 
-shows_cause_here : (y : Cause) (n : ℕ) (cs : List Call) → shows (after_cause y n cs) n ≡ mark_by y (shows cs n)
-shows_cause_here NotSubscribed n cs = refl
-shows_cause_here LimitReached n cs = refl
-shows_cause_here CallNotThere n cs = shows_without n cs
-shows_cause_here AlreadyOnHold n cs = refl
-shows_cause_here NotOnHold n cs = refl
-shows_cause_here NoChannel n cs = refl
+shows_cause_here : (y : Cause) (n : ℕ) (cs : List Call) → Once cs → shows (after_cause y n cs) n ≡ mark_by y (shows cs n)
+shows_cause_here NotSubscribed n cs o = refl
+shows_cause_here LimitReached n cs o = refl
+shows_cause_here CallNotThere n cs o = shows_without n cs o
+shows_cause_here AlreadyOnHold n cs o = refl
+shows_cause_here NotOnHold n cs o = refl
+shows_cause_here NoChannel n cs o = refl
 
 pub shows_settle : (a : Body) (n x : ℕ) (cs : List Call) → (n ≡ x → ⊥) → shows (settle a n cs) x ≡ shows cs x
 unfolding settle
@@ -183,26 +180,26 @@ cond_false : (h : Bool) → cond h false false ≡ false
 cond_false true = refl
 cond_false false = refl
 
-pub shows_settle_here : (a : Body) (n : ℕ) (cs : List Call) → shows (settle a n cs) n ≡ mark_after a (has cs n) (shows cs n)
+pub shows_settle_here : (a : Body) (n : ℕ) (cs : List Call) → Once cs → shows (settle a n cs) n ≡ mark_after a (has cs n) (shows cs n)
 unfolding settle
-shows_settle_here (Answer Hold Granted) n cs = shows_mark_here true n cs ∙ cond_same (has cs n)
-shows_settle_here (Answer Hold (Declined y)) n cs = shows_cause_here y n cs
-shows_settle_here (Answer Retrieve Granted) n cs = shows_mark_here false n cs ∙ cond_false (has cs n)
-shows_settle_here (Answer Retrieve (Declined y)) n cs = shows_cause_here y n cs
-shows_settle_here ClearAnswer n cs = shows_without n cs
-shows_settle_here (Request o) n cs = refl
-shows_settle_here ClearRequest n cs = refl
-shows_settle_here (Notice w) n cs = refl
+shows_settle_here (Answer Hold Granted) n cs o = shows_mark_here true n cs ∙ cond_same (has cs n)
+shows_settle_here (Answer Hold (Declined y)) n cs o = shows_cause_here y n cs o
+shows_settle_here (Answer Retrieve Granted) n cs o = shows_mark_here false n cs ∙ cond_false (has cs n)
+shows_settle_here (Answer Retrieve (Declined y)) n cs o = shows_cause_here y n cs o
+shows_settle_here ClearAnswer n cs o = shows_without n cs o
+shows_settle_here (Request k) n cs o = refl
+shows_settle_here ClearRequest n cs o = refl
+shows_settle_here (Notice w) n cs o = refl
 
 -- ys says of x what xs says, as far as an answer for d can tell
 abbrev pub Alike : ℕ → List Call → List Call → ℕ → Type 0
 Alike d xs ys x = (shows ys x ≡ shows xs x) × (d ≡ x → has ys x ≡ has xs x)
 
-pub settle_alike : (a : Body) (d x : ℕ) (xs ys : List Call) → Alike d xs ys x → shows (settle a d ys) x ≡ shows (settle a d xs) x
-settle_alike a d x xs ys h = go (eqb_tells d x)
+pub settle_alike : (a : Body) (d x : ℕ) (xs ys : List Call) → Once xs → Once ys → Alike d xs ys x → shows (settle a d ys) x ≡ shows (settle a d xs) x
+settle_alike a d x xs ys o o' h = go (eqb_tells d x)
   where
     here : (z : ℕ) → has ys z ≡ has xs z → shows ys z ≡ shows xs z → shows (settle a z ys) z ≡ shows (settle a z xs) z
-    here z i j = shows_settle_here a z ys ∙ (rw (i, j) (sym (shows_settle_here a z xs)))
+    here z i j = shows_settle_here a z ys o' ∙ (rw (i, j) (sym (shows_settle_here a z xs o)))
 
     go : ((eqb d x ≡ true) × (d ≡ x)) ⊎ ((eqb d x ≡ false) × (d ≡ x → ⊥)) → shows (settle a d ys) x ≡ shows (settle a d xs) x
     go (inl e) = rw e.1 (here x (h.1 e.1) h.0)

@@ -34,6 +34,7 @@ use Rattle.law.specs.History.{Deed, deed, handled_deeds, served_deeds, connected
 use Rattle.law.specs.Run.{Waiting, State, Sends, Takes, Step, ServedBy, NotifiedBy}
 use Rattle.law.proofs.Exchange.{Phase, phase_drift, phase_up, phase_down, phase_notice, phase_connect, phase_ask, phase_tick, phase_receive, phase_dropped, phase_taken, phase_repeat, phase_fresh}
 use Rattle.law.proofs.Moves.{Books, Moved, moved_books, faces, acts, Acts as CarryingOut, ActsOf, acted, answered_body, reseat, opens_books, joins_move, cuts_move, tells_move, notice_true}
+use Rattle.law.proofs.Once.{Once, Rising, once, rising_connects, rising_opens, rising_ticks, rising_receives}
 use Rattle.law.proofs.Standings.{Did}
 use Rattle.law.proofs.Thin.{Added, said, telling_added, Pulls, pulling_pulls}
 use Rattle.law.proofs.Thin.Pulls.{pulls_none, pulls_frame, pulls_noise}
@@ -96,6 +97,7 @@ Exchange u t s up down = Phase (standing u (faces s) s.last) (last_of (session u
 pub record Inv (limit : ℕ → ℕ) (size u : ℕ) (ds : List Deed) (p : State) : Type 0 where
   pub books : Books limit size ds p.switch
   pub phase : Exchange u p.terminal p.switch p.up p.down
+  pub rising : Rising p.terminal
 
 -- opening leaves the exchange
 open_phase : (u : ℕ) (v : User) (t : terminal.Model) (s : Model) (up down : Waiting) (z : Result Unit Fault) → Exchange u t s up down → Exchange u t (opens z s v) up down
@@ -173,13 +175,14 @@ not_by_cleared u c (Err e) = tt
 module _ (limit : ℕ → ℕ) (size u : ℕ) (ds : List Deed) where
   -- books and exchange of a state with these parts
   inv_by : {d : List Deed} {t : terminal.Model} {s : Model} {up down : Waiting} (q : State) → q.terminal ≡ t → q.switch ≡ s → q.up ≡ up → q.down ≡ down
-      → Books limit size d s → Exchange u t s up down → Inv limit size u d q
-  inv_by {d} {t} {s} {up} {down} q et es eu ed B h =
+      → Books limit size d s → Exchange u t s up down → Rising t → Inv limit size u d q
+  inv_by {d} {t} {s} {up} {down} q et es eu ed B h o =
       record {
         books = subst (Books limit size d) (sym es) B;
         phase =
             subst₂ (λ s t. Exchange u t s q.up q.down) (sym es) (sym et)
             (subst₂ (λ w v. Exchange u t s w v) (sym eu) (sym ed) h);
+        rising = subst Rising (sym et) o;
       }
 
   -- a move of the switch alone
@@ -187,7 +190,7 @@ module _ (limit : ℕ → ℕ) (size u : ℕ) (ds : List Deed) where
       → Moved limit size p.switch s d → NotBy u d → Inv limit size u (d ++ ds) q
   moved_inv {d} {s} p q e k I m n =
       inv_by q k.0 e k.1 k.2 (moved_books m I.books)
-      (moved_phase u p.terminal p.switch s p.up p.down I.books m n (ap (session u) m.seats) I.phase)
+      (moved_phase u p.terminal p.switch s p.up p.down I.books m n (ap (session u) m.seats) I.phase) I.rising
 
   -- what carrying out a request does
   carrying : (v : User) (f : Frame) {h : Handled} {s s₁ : Model} → Books limit size ds s → carry_out (limit v.0) s v.0 f.call f.body ≡ carried h s₁
@@ -208,18 +211,18 @@ module _ (limit : ℕ → ℕ) (size u : ℕ) (ds : List Deed) where
       )
 
   -- serving the pair's user, when a frame was taken from his link
-  own_came : {v : User} {n : Session} {f : Frame} {t : terminal.Model} {s s' : Model} {up down down' : Waiting} {r : Result ServedTold Fault} (bytes : List ℕ) → v.0 ≡ u
+  own_came : {v : User} {n : Session} {f : Frame} {t : terminal.Model} {s s' : Model} {up down down' : Waiting} {r : Result ServedTold Fault} (bytes : List ℕ) → v.0 ≡ u → Once t.calls
       → said bytes ≡ Ok f → session u s.sessions ≡ Some n → Books limit size ds s → Exchange u t s (bytes ∷ up) down → Came limit v n f s down down' r s'
       → Books limit size (served_deeds v.0 r ++ ds) s' × Exchange u t s' up down'
-  own_came {t = t} {s = s} {up = up} bytes a w en B h (turned e i) =
+  own_came {t = t} {s = s} {up = up} bytes a o w en B h (turned e i) =
       (B, subst (λ z. Exchange u t s up z) (sym i) (phase_taken (standing u (faces s) s.last) bytes h))
-  own_came {n = n} {f = f} {t = t} {s = s} {up = up} {down = down} {down' = down'} bytes a w en B h (again g x i j k) =
+  own_came {n = n} {f = f} {t = t} {s = s} {up = up} {down = down} {down' = down'} bytes a o w en B h (again g x i j k) =
       let st = standing u (faces s) s.last in
       let l = last_of (session u s.sessions) in
       let ek : kept_of (session u s.sessions) ≡ Some (answer f.exchange g) = ap kept_of en ∙ (ap (frame_of n.exchange) i ∙ ap (λ y. Some (answer y g)) (sym j)) in
       let h₂ : Phase st l (Some (answer f.exchange g)) t up down = subst (λ k. Phase st l k t up down) ek (phase_taken st bytes h) in
       (B, subst (λ k. Phase st l k t up down') (sym ek) (phase_repeat st h₂ k))
-  own_came {v} {n} {f} {t} {s} {s'} {up} {down} {down'} bytes a w en B h (first g s₁ x i j k) =
+  own_came {v} {n} {f} {t} {s} {s'} {up} {down} {down'} bytes a o w en B h (first g s₁ x i j k) =
       let A = carrying v f B i in
       let st = standing u (faces s) s.last in
       let st₁ = standing u (faces s₁) s₁.last in
@@ -229,25 +232,25 @@ module _ (limit : ℕ → ℕ) (size u : ℕ) (ds : List Deed) where
       let up_to : s.last ≤ s₁.last = let t = A.lasts in omega arith in
       let n₁ = handled_by v f.exchange g in
       let es : session u (noted n₁ s₁.sessions) ≡ Some n₁ = session_noted u n n₁ s₁.sessions a (ap (session u) A.seats ∙ en) in
-      let h₁ = phase_fresh st st₁ bytes f (answered_body g) w h z did (λ y d. elsewhere u (faces s) (faces s₁) s.last s₁.last y (A.but y d) up_to) (subst (λ y. Added y down down') e₁ k) in (
+      let h₁ = phase_fresh st st₁ bytes f (answered_body g) w o h z did (λ y d. elsewhere u (faces s) (faces s₁) s.last s₁.last y (A.but y d) up_to) (subst (λ y. Added y down down') e₁ k) in (
         reseat _ (moved_books (acted A) B),
         subst (λ o. Phase st₁ (last_of o) (kept_of o) t up down') (sym es) (subst (λ y. Phase st₁ f.exchange (Some y) t up down') (sym e₁) h₁),
       )
 
-  own_serves : (v : User) (n : Session) (t : terminal.Model) (s s' : Model) (up up' down down' : Waiting) (r : Result ServedTold Fault) (z : Result (Option Frame) Fault) → v.0 ≡ u
+  own_serves : (v : User) (n : Session) (t : terminal.Model) (s s' : Model) (up up' down down' : Waiting) (r : Result ServedTold Fault) (z : Result (Option Frame) Fault) → v.0 ≡ u → Once t.calls
       → session u s.sessions ≡ Some n → Pulls up up' z → Books limit size ds s → Exchange u t s up down → Serves Sends (limit v.0) v n z s s' down down' r
       → Books limit size (served_deeds v.0 r ++ ds) s' × Exchange u t s' up' down'
-  own_serves v n t s s' up up' down down' r (Err e) a en (pulls_noise {bytes = bytes} th i) B h k = rw (k.0, k.1, k.2) ((B, phase_taken _ bytes (phase_up _ th h)))
-  own_serves v n t s s' up up' down down' r (Ok None) a en (pulls_none th) B h k = rw (k.0, k.1, k.2) ((B, phase_up _ th h))
-  own_serves v n t s s' up up' down down' r (Ok (Some f)) a en (pulls_frame {bytes = bytes} th i) B h k =
-      own_came {v = v} {n = n} {f = f} bytes a i en B (phase_up _ th h) (came limit v n f s s' down down' r k)
+  own_serves v n t s s' up up' down down' r (Err e) a o en (pulls_noise {bytes = bytes} th i) B h k = rw (k.0, k.1, k.2) ((B, phase_taken _ bytes (phase_up _ th h)))
+  own_serves v n t s s' up up' down down' r (Ok None) a o en (pulls_none th) B h k = rw (k.0, k.1, k.2) ((B, phase_up _ th h))
+  own_serves v n t s s' up up' down down' r (Ok (Some f)) a o en (pulls_frame {bytes = bytes} th i) B h k =
+      own_came {v = v} {n = n} {f = f} bytes a o i en B (phase_up _ th h) (came limit v n f s s' down down' r k)
 
-  own_serving : (v : User) (t : terminal.Model) (s s' : Model) (up up' down down' : Waiting) (r : Result ServedTold Fault) (z : Result Session Fault) → serve_checked s v ≡ z → v.0 ≡ u
+  own_serving : (v : User) (t : terminal.Model) (s s' : Model) (up up' down down' : Waiting) (r : Result ServedTold Fault) (z : Result Session Fault) → serve_checked s v ≡ z → v.0 ≡ u → Once t.calls
       → Books limit size ds s → Exchange u t s up down → ServingBy Takes Sends z (limit v.0) v s s' up up' down down' r
       → Books limit size (served_deeds v.0 r ++ ds) s' × Exchange u t s' up' down'
-  own_serving v t s s' up up' down down' r (Err e) i a B h k = rw (k.0, k.1, k.2, k.3) ((B, h))
-  own_serving v t s s' up up' down down' r (Ok n) i a B h k =
-      own_serves v n t s s' up up' down down' r k.came a (subst (λ y. session y s.sessions ≡ Some n) a (checked_session s v n i)) (pulling_pulls k.pulling) B h k.serves
+  own_serving v t s s' up up' down down' r (Err e) i a o B h k = rw (k.0, k.1, k.2, k.3) ((B, h))
+  own_serving v t s s' up up' down down' r (Ok n) i a o B h k =
+      own_serves v n t s s' up up' down down' r k.came a o (subst (λ y. session y s.sessions ≡ Some n) a (checked_session s v n i)) (pulling_pulls k.pulling) B h k.serves
 
   other_serves : (v : User) (n : Session) (t : terminal.Model) (s s' : Model) (up down c d : Waiting) (r : Result ServedTold Fault) (z : Result (Option Frame) Fault) → (v.0 ≡ u → ⊥)
       → Books limit size ds s → Exchange u t s up down → Serves Sends (limit v.0) v n z s s' c d r → Books limit size (served_deeds v.0 r ++ ds) s' × Exchange u t s' up down
@@ -264,15 +267,15 @@ module _ (limit : ℕ → ℕ) (size u : ℕ) (ds : List Deed) where
       → Inv limit size u (served_deeds v.0 r ++ ds) q
   served_inv v p q r true e I k =
       let i : v.0 ≡ u = is_same v.0 u e in
-      let h = own_serving v p.terminal p.switch q.switch p.up q.up p.down q.down r (serve_checked p.switch v) refl i I.books I.phase k.0 in
-      inv_by q k.1 refl refl refl h.0 h.1
+      let h = own_serving v p.terminal p.switch q.switch p.up q.up p.down q.down r (serve_checked p.switch v) refl i (once p.terminal I.rising) I.books I.phase k.0 in
+      inv_by q k.1 refl refl refl h.0 h.1 I.rising
     where
       is_same : (a b : ℕ) → eqb a b ≡ true → a ≡ b
       is_same a b e = grind (arith, nat_tests)
   served_inv v p q r false e I k =
       let a = k.0 in
       let h = other_serving v p.terminal p.switch q.switch p.up p.down a.up a.up_after a.down a.down_after r (serve_checked p.switch v) (is_other v.0 u e) I.books I.phase a.serving in
-      inv_by q k.1.0 refl k.1.1 k.1.2 h.0 h.1
+      inv_by q k.1.0 refl k.1.1 k.1.2 h.0 h.1 I.rising
     where
       is_other : (a b : ℕ) → eqb a b ≡ false → a ≡ b → ⊥
       is_other a b e i = let z : eqb a b ≡ true = grind (arith, nat_tests) in let y : true ≡ false = cc in let x : ◌≡◌ {A = ℕ} 0 1 = cc in omega arith
@@ -299,31 +302,35 @@ module _ (limit : ℕ → ℕ) (size u : ℕ) (ds : List Deed) where
   notified_inv : (v : User) (p q : State) (r : Result NotifiedTold Fault) (z : Bool) → Inv limit size u ds p → NotifiedBy z v p r q → Inv limit size u ds q
   notified_inv v p q r true I k =
       let h = notified_phase v p.terminal p.switch q.switch p.up p.down q.down r (is_user v.0) (next_notice v.0 p.switch.records) refl I.books I.phase k.0 in
-      inv_by q k.1 refl k.2 refl h.0 h.1
+      inv_by q k.1 refl k.2 refl h.0 h.1 I.rising
   notified_inv v p q r false I k =
       let a = k.0 in
       let h = other_notified v p.terminal p.switch q.switch p.up p.down a.down a.down_after r (is_user v.0) (next_notice v.0 p.switch.records) I.books I.phase a.notifying in
-      inv_by q k.1.0 refl k.1.1 k.1.2 h.0 h.1
+      inv_by q k.1.0 refl k.1.1 k.1.2 h.0 h.1 I.rising
 
-  received_phase : (t : terminal.Model) (s : Model) (up down down' : Waiting) (z : Result (Option Frame) Fault) → Pulls down down' z → Exchange u t s up down → Exchange u (receives t z) s up down'
-  received_phase t s up down down' (Err e) (pulls_noise {bytes = bytes} th i) h = phase_dropped _ bytes (phase_down _ th h)
-  received_phase t s up down down' (Ok None) (pulls_none th) h = phase_down _ th h
-  received_phase t s up down down' (Ok (Some f)) (pulls_frame {bytes = bytes} th i) h = phase_receive _ bytes f i (phase_down _ th h)
+  received_phase : (t : terminal.Model) (s : Model) (up down down' : Waiting) (z : Result (Option Frame) Fault) → Pulls down down' z → Rising t → Exchange u t s up down → Exchange u (receives t z) s up down'
+  received_phase t s up down down' (Err e) (pulls_noise {bytes = bytes} th i) o h = phase_dropped _ bytes (phase_down _ th h)
+  received_phase t s up down down' (Ok None) (pulls_none th) o h = phase_down _ th h
+  received_phase t s up down down' (Ok (Some f)) (pulls_frame {bytes = bytes} th i) o h =
+      phase_receive _ bytes f i (once t o) (once (receives t (Ok (Some f))) (rising_receives t (Ok (Some f)) o)) (phase_down _ th h)
 
   -- every step keeps the invariant
   pub step_inv : (v : User) → v.0 ≡ u → (p q : State) (e : Event) → Inv limit size u ds p → Step limit v p e q → Inv limit size u (deed e ++ ds) q
   step_inv w o p q (Opened v r) I k =
       inv_by q k.2.0 k.1 k.2.1 k.2.2 (opens_books (open_checked p.switch v) p.switch v I.books)
-      (open_phase u v p.terminal p.switch p.up p.down (open_checked p.switch v) I.phase)
+      (open_phase u v p.terminal p.switch p.up p.down (open_checked p.switch v) I.phase) I.rising
   step_inv w o p q (Connected c a b r) I k =
       subst (λ r. Inv limit size u (connected_deeds c.0 a.0 b.0 r ++ ds) q) (sym k.0)
       (moved_inv p q k.1 k.2 I (joins_move limit size ds p.switch I.books c a b) (not_by_connected u c.0 a.0 b.0 _))
-  step_inv w o p q (Joined c r) I k = inv_by q k.1 k.2.0 k.2.1 k.2.2 I.books (phase_connect _ (terminal.connect_checked p.terminal c) c I.phase)
-  step_inv w o p q (Requested j c r) I k = inv_by q k.1 k.2 refl k.3 I.books (phase_ask _ j c (request_checked p.terminal j c) r refl k.0 I.phase)
-  step_inv w o p q (Ticked r) I k = inv_by q k.1 k.2 refl k.3 I.books (phase_tick _ p.terminal.request r refl k.0 I.phase)
+  step_inv w y p q (Joined c r) I k =
+      let z = terminal.connect_checked p.terminal c in
+      let o = rising_connects p.terminal c z refl I.rising in
+      inv_by q k.1 k.2.0 k.2.1 k.2.2 I.books (phase_connect _ z c (once p.terminal I.rising) (once (terminal.connects z p.terminal c) o) I.phase) o
+  step_inv w o p q (Requested j c r) I k = inv_by q k.1 k.2 refl k.3 I.books (phase_ask _ j c (request_checked p.terminal j c) r refl k.0 I.phase) (rising_opens p.terminal j c (request_checked p.terminal j c) I.rising)
+  step_inv w o p q (Ticked r) I k = inv_by q k.1 k.2 refl k.3 I.books (phase_tick _ p.terminal.request r refl k.0 I.phase) (rising_ticks p.terminal p.terminal.request I.rising)
   step_inv w o p q (Received r) I k =
       let h = k.0 in
-      inv_by q h.state k.1 k.2 refl I.books (received_phase p.terminal p.switch p.up p.down q.down h.came (pulling_pulls h.pulling) I.phase)
+      inv_by q h.state k.1 k.2 refl I.books (received_phase p.terminal p.switch p.up p.down q.down h.came (pulling_pulls h.pulling) I.rising I.phase) (rising_receives p.terminal h.came I.rising)
   step_inv w o p q (Served v r) I k = served_inv v p q r (same v.0 w.0) (ap (same v.0) (sym o)) I k
   step_inv w o p q (Notified v r) I k = notified_inv v p q r (same v.0 w.0) I k
   step_inv w o p q (Cleared c r) I k =

@@ -54,7 +54,7 @@ shown_own n i b (c ∷ cs) ne = go (eqb c.id.0 n) refl (shown_own n i b cs ne)
     go false e ih = same_own (eqb c.id.0 i) c c (find i (mark n b cs)) (find i cs) refl ih
 
 -- identifiers not above the first are not found
-find_below : (n k last : ℕ) (cs : List Call) → rising_from k last cs ≡ true → n ≤ k → find n cs ≡ None
+pub find_below : (n k last : ℕ) (cs : List Call) → rising_from k last cs ≡ true → n ≤ k → find n cs ≡ None
 find_below n k last [] h le = refl
 find_below n k last (c ∷ cs) h le =
     let first : k < c.id.0 = ltb-true k c.id.0 (and_left (ltb k c.id.0) (rising_from c.id.0 last cs) h) in
