@@ -5,7 +5,7 @@ ghost use Rattle.switch.specs.Clearing.{clear_told, clears};
 ghost use Rattle.switch.specs.Connecting.{connect_checked, connected};
 ghost use Rattle.switch.specs.Opening.{open_checked, opened};
 ghost use Rattle.switch.specs.State.{state};
-ghost use Rattle.pair.specs.View.{Goes_on, SamePair, Steps, SwitchOnly};
+ghost use Rattle.pair.specs.View.{GoesOn, SamePair, Steps, SwitchOnly};
 
 use super::Pair;
 use frames::CallId;
@@ -22,7 +22,7 @@ impl<R: Register, U: Link, D: Link> Pair<R, U, D> {
         ensures rest { SwitchOnly self.old self.new }
         ensures same { SamePair self.old self.new }
         ensures step { Steps R.Register.limit U.Link.waits D.Link.waits self.old (Opened user result) self.new }
-        ensures law { Goes_on R.Register.limit U.Link.waits D.Link.waits self.old (Opened user result) self.new }
+        ensures law { GoesOn R.Register.limit U.Link.waits D.Link.waits self.old (Opened user result) self.new }
     {
         self.switch.open_session(user)
     }
@@ -34,7 +34,7 @@ impl<R: Register, U: Link, D: Link> Pair<R, U, D> {
         ensures rest { SwitchOnly self.old self.new }
         ensures same { SamePair self.old self.new }
         ensures step { Steps R.Register.limit U.Link.waits D.Link.waits self.old (Connected call first second result) self.new }
-        ensures law { Goes_on R.Register.limit U.Link.waits D.Link.waits self.old (Connected call first second result) self.new }
+        ensures law { GoesOn R.Register.limit U.Link.waits D.Link.waits self.old (Connected call first second result) self.new }
     {
         self.switch.connect(call, first, second)
     }
@@ -46,7 +46,7 @@ impl<R: Register, U: Link, D: Link> Pair<R, U, D> {
         ensures rest { SwitchOnly self.old self.new }
         ensures same { SamePair self.old self.new }
         ensures step { Steps R.Register.limit U.Link.waits D.Link.waits self.old (Cleared call result) self.new }
-        ensures law { Goes_on R.Register.limit U.Link.waits D.Link.waits self.old (Cleared call result) self.new }
+        ensures law { GoesOn R.Register.limit U.Link.waits D.Link.waits self.old (Cleared call result) self.new }
     {
         self.switch.clear(call)
     }

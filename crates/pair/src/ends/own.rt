@@ -4,7 +4,7 @@ ghost use Rattle.law.specs.declared.event.Event.TheVariants.{Joined, Requested, 
 ghost use Rattle.terminal.specs.Arriving.{Receiving};
 ghost use Rattle.terminal.specs.Asking.{Requesting, Ticking, requested, ticked};
 ghost use Rattle.terminal.specs.State.{connect_checked, connected, model};
-ghost use Rattle.pair.specs.View.{Goes_on, SamePair, Steps, TerminalOnly, TerminalUp, TerminalDown};
+ghost use Rattle.pair.specs.View.{GoesOn, SamePair, Steps, TerminalOnly, TerminalUp, TerminalDown};
 
 use super::Pair;
 use frames::CallId;
@@ -21,7 +21,7 @@ impl<R: Register, U: Link, D: Link> Pair<R, U, D> {
         ensures state { model self.new.terminal ≡ connected (model self.old.terminal) call }
         ensures rest { TerminalOnly self.old self.new }
         ensures step { Steps R.Register.limit U.Link.waits D.Link.waits self.old (Joined call result) self.new }
-        ensures law { Goes_on R.Register.limit U.Link.waits D.Link.waits self.old (Joined call result) self.new }
+        ensures law { GoesOn R.Register.limit U.Link.waits D.Link.waits self.old (Joined call result) self.new }
     {
         self.terminal.connect(call)
     }
@@ -41,7 +41,7 @@ impl<R: Register, U: Link, D: Link> Pair<R, U, D> {
         ensures state { model self.new.terminal ≡ requested (model self.old.terminal) ask call }
         ensures rest { TerminalUp self.old self.new }
         ensures step { Steps R.Register.limit U.Link.waits D.Link.waits self.old (Requested ask call result) self.new }
-        ensures law { Goes_on R.Register.limit U.Link.waits D.Link.waits self.old (Requested ask call result) self.new }
+        ensures law { GoesOn R.Register.limit U.Link.waits D.Link.waits self.old (Requested ask call result) self.new }
     {
         self.plain_request(ask, call)
     }
@@ -52,7 +52,7 @@ impl<R: Register, U: Link, D: Link> Pair<R, U, D> {
         ensures state { model self.new.terminal ≡ ticked (model self.old.terminal) }
         ensures rest { TerminalUp self.old self.new }
         ensures step { Steps R.Register.limit U.Link.waits D.Link.waits self.old (event_ticked result) self.new }
-        ensures law { Goes_on R.Register.limit U.Link.waits D.Link.waits self.old (event_ticked result) self.new }
+        ensures law { GoesOn R.Register.limit U.Link.waits D.Link.waits self.old (event_ticked result) self.new }
     {
         self.terminal.tick(&mut self.up)
     }
@@ -62,7 +62,7 @@ impl<R: Register, U: Link, D: Link> Pair<R, U, D> {
         ensures outcome { Receiving D.Link.takes (model self.old.terminal) self.old.down (model self.new.terminal) self.new.down result }
         ensures rest { TerminalDown self.old self.new }
         ensures step { Steps R.Register.limit U.Link.waits D.Link.waits self.old (event_received result) self.new }
-        ensures law { Goes_on R.Register.limit U.Link.waits D.Link.waits self.old (event_received result) self.new }
+        ensures law { GoesOn R.Register.limit U.Link.waits D.Link.waits self.old (event_received result) self.new }
     {
         self.terminal.receive(&mut self.down)
     }

@@ -2,7 +2,7 @@
 ghost use Rattle.std.specs.Prelude.{◌≡◌};
 ghost use Rattle.law.specs.declared.event.Event.TheVariants.{Served as event_served, Notified as event_notified};
 ghost use Rattle.pair.specs.Serving.{Notifies, Serves};
-ghost use Rattle.pair.specs.View.{Goes_on, SamePair, Steps};
+ghost use Rattle.pair.specs.View.{GoesOn, SamePair, Steps};
 
 use super::Pair;
 use links::Link;
@@ -38,7 +38,7 @@ impl<R: Register, U: Link, D: Link> Pair<R, U, D> {
         ensures outcome { Serves R.Register.limit U.Link.takes D.Link.sends V.Link.takes E.Link.sends user self.old self.new up.old up.new down.old down.new result }
         ensures same { SamePair self.old self.new }
         ensures step { Steps R.Register.limit U.Link.waits D.Link.waits self.old (event_served user result) self.new }
-        ensures law { Goes_on R.Register.limit U.Link.waits D.Link.waits self.old (event_served user result) self.new }
+        ensures law { GoesOn R.Register.limit U.Link.waits D.Link.waits self.old (event_served user result) self.new }
     {
         self.plain_serve(user, up, down)
     }
@@ -60,7 +60,7 @@ impl<R: Register, U: Link, D: Link> Pair<R, U, D> {
         ensures outcome { Notifies D.Link.sends E.Link.sends user self.old self.new down.old down.new result }
         ensures same { SamePair self.old self.new }
         ensures step { Steps R.Register.limit U.Link.waits D.Link.waits self.old (event_notified user result) self.new }
-        ensures law { Goes_on R.Register.limit U.Link.waits D.Link.waits self.old (event_notified user result) self.new }
+        ensures law { GoesOn R.Register.limit U.Link.waits D.Link.waits self.old (event_notified user result) self.new }
     {
         self.plain_notify(user, down)
     }

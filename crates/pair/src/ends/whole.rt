@@ -1,6 +1,6 @@
 // Any call on a pair.
 ghost use Rattle.std.specs.Prelude.{◌≡◌};
-ghost use Rattle.pair.specs.View.{Goes_on, SamePair, Steps, call_of};
+ghost use Rattle.pair.specs.View.{GoesOn, SamePair, Steps, call_of};
 
 use super::Pair;
 use crate::call::Call;
@@ -14,7 +14,7 @@ impl<R: Register, U: Link, D: Link> Pair<R, U, D> {
         ensures which { call_of result ≡ call }
         ensures same { SamePair self.old self.new }
         ensures step { Steps R.Register.limit U.Link.waits D.Link.waits self.old result self.new }
-        ensures law { Goes_on R.Register.limit U.Link.waits D.Link.waits self.old result self.new }
+        ensures law { GoesOn R.Register.limit U.Link.waits D.Link.waits self.old result self.new }
     {
         match call {
             Call::Open(user) => Event::Opened(user, self.open_session(user)),
