@@ -1,3 +1,5 @@
+#![tactic(auto)]
+
 // Registers and pools on examples: each refusal beside what is next to it, and channels through the life of calls.
 #[cfg(test)]
 mod channels;
