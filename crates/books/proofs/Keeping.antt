@@ -1,17 +1,15 @@
 -- Every deed that is noted keeps the books. Assumes nothing.
-use Rattle.std.proofs.Common.{◌≡◌, ℕ, ◌+◌, Bool, true, false, cond, ◌&&◌, eqb, ◌⊎◌, List, [], ◌∷◌, ◌++◌, map, Some, None, Ok, Err, Option, Result, sym, refl, ap, ◌∙◌, subst, inl, inr, arith}
-use Rattle.std.proofs.lemmas.Bool.Decides.{nat_tests, eqb_tells}
+use Rattle.std.proofs.Common.{◌≡◌, ℕ, Bool, true, false, cond, ◌&&◌, eqb, ◌⊎◌, List, [], ◌∷◌, ◌++◌, map, Some, Ok, Err, Result, sym, refl, ap, ◌∙◌, subst, inl, inr, arith}
+use Rattle.std.proofs.lemmas.Bool.Decides.{eqb_tells}
 use Rattle.records.specs.Legs.{one}
 use Rattle.records.specs.declared.legs.HeldLegs.{HeldLegs}
 use Rattle.register.specs.User.{same}
-use Rattle.law.specs.History.{Deed, Parties, deed, leg_among, live, on_hold, parties, party, party_of}
+use Rattle.law.specs.History.{Deed, deed, leg_among, live, on_hold, parties, party, party_of}
 use Rattle.law.specs.History.Deed.{connected, hold_granted, retrieval_granted, cleared_by_party, cleared_by_network}
 use Rattle.law.specs.declared.event.Event.{Event}
 use Rattle.books.specs.Kept.{Kept, Notes}
-use Rattle.books.specs.Model.{Enters, Model, after, after_all, after_clear, entry_for, fresh, mark_for}
-use Rattle.books.specs.Tables.{Apart, call_in, ended, freed, is_call, is_leg, live_by, marked, parties_by, put, renewed, same_call, same_leg}
-use Rattle.books.specs.declared.entry.Entry.{Entry}
-use Rattle.books.specs.declared.entry.Mark.{Mark}
+use Rattle.books.specs.Model.{Enters, Model, after, after_all, entry_for, fresh, mark_for}
+use Rattle.books.specs.Tables.{Apart, call_in, ended, freed, is_call, live_by, marked, parties_by, put, renewed, same_call, same_leg}
 use Rattle.books.specs.declared.error.NoteError.{NoteError}
 use Rattle.books.specs.declared.error.NoteError.TheVariants.{NoMemory, Full}
 use Rattle.books.proofs.Found.{apart_map, apart_put, found_put}

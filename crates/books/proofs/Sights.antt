@@ -1,8 +1,7 @@
 -- What the tables of the books show after each change. Assumes nothing.
-use Rattle.std.proofs.Common.{◌≡◌, ℕ, Bool, true, false, cond, ◌&&◌, eqb, List, [], ◌∷◌, map, Some, None, Option, sym, refl, ap, ◌∙◌, arith}
+use Rattle.std.proofs.Common.{◌≡◌, ℕ, Bool, true, false, cond, eqb, List, [], ◌∷◌, map, Some, None, Option, refl, ap, ◌∙◌, arith}
 use Rattle.std.proofs.lemmas.Bool.Decides.{nat_tests}
 use Rattle.std.specs.Option.{option_map}
-use Rattle.register.specs.User.{same}
 use Rattle.books.specs.Model.{mark_for}
 use Rattle.books.specs.Tables.{call_in, ended, freed, held_by, is_call, is_leg, leg_in, live_by, marked, parties_by, put, renewed, same_call, same_leg}
 use Rattle.books.specs.declared.entry.Entry.{Entry}

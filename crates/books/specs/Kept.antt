@@ -1,7 +1,7 @@
 -- What the books say of the deeds they were kept from. Assumes nothing.
-use Rattle.std.specs.Prelude.{◌≡◌, ℕ, true, false, List, [], ◌∷◌, ◌++◌, Ok, Err, Result}
+use Rattle.std.specs.Prelude.{◌≡◌, ℕ, true, false, List, ◌++◌, Ok, Err, Result}
 use Rattle.terminal.specs.declared.call.Call.{Call}
-use Rattle.law.specs.History.{Deed, calls_on_hold, deed, held_calls_cleared, holds_granted, legs_not_on_hold, live, on_hold, parties, retrievals_granted}
+use Rattle.law.specs.History.{Deed, deed, held_calls_cleared, holds_granted, legs_not_on_hold, live, on_hold, parties, retrievals_granted}
 use Rattle.law.specs.Law.{calls_differing}
 use Rattle.law.specs.declared.event.Event.{Event}
 use Rattle.books.specs.Model.{Model, any_at_end, any_wants_room}

@@ -1,5 +1,5 @@
 -- The tables of the books: what is found in them and what is put into them. Assumes nothing.
-use Rattle.std.specs.Prelude.{◌≡◌, ℕ, ◌+◌, Bool, true, false, cond, not, ◌&&◌, List, [], ◌∷◌, ◌++◌, map, is_some, Some, None, Option, ◌==◌, nat_lt}
+use Rattle.std.specs.Prelude.{◌≡◌, ℕ, ◌+◌, Bool, false, cond, not, ◌&&◌, List, [], ◌∷◌, ◌++◌, map, is_some, Some, None, Option, ◌==◌, nat_lt}
 use Rattle.records.specs.Legs.{one}
 use Rattle.register.specs.User.{same}
 use Rattle.terminal.specs.declared.call.Call.{Call}

@@ -1,5 +1,5 @@
 -- What the outcome of a call is in words: `OK` and what was told, or `NO` and the fault. Assumes nothing.
-use Rattle.std.specs.Prelude.{ℕ, List, ◌++◌, Some, None, Ok, Err, codes, decimal, Option, Result}
+use Rattle.std.specs.Prelude.{ℕ, List, ◌++◌, Ok, Err, codes, decimal, Result}
 use Rattle.frames.specs.Codes.{news_number}
 use Rattle.frames.specs.declared.content.Operation.{Operation}
 use Rattle.frames.specs.declared.content.Operation.TheVariants as operation

@@ -1,7 +1,6 @@
 -- Single words of requests, operations and layers, and faults in words. Assumes nothing.
 use Rattle.std.specs.Prelude.{ℕ, List, ◌++◌, Some, None, codes, decimal, Option}
 use Rattle.frames.specs.Codes.{cause_number}
-use Rattle.frames.specs.declared.content.Cause.{Cause}
 use Rattle.frames.specs.declared.content.Operation.{Operation}
 use Rattle.frames.specs.declared.content.Operation.TheVariants as operation
 use Rattle.frames.specs.declared.content.Verdict.{Verdict}

@@ -1,5 +1,7 @@
 // Calls and their outcomes in words, for programs that print them.
 // To the crates above it promises the bytes of each text, by equality with definitions. It uses `law` for events.
+#![tactic(auto)]
+
 mod command;
 mod ends;
 mod fault;

@@ -5,5 +5,5 @@ use Rattle.books.proofs.tables.renew_mark.Goals as goal
 
 pub returns : goal.returns
 returns c =
-    let long : length c.renew_marks.new.marks ≡ c.args.marks.now.len = omega (arith, ap length c.renew_marks.ensures, length-map c.deref-mut.result.now (renewed same_leg c.args.new), c.deref-mut.ensures.len) in
-    with_items_is c.args.marks.now c.renew_marks.new.marks long ∙ c.renew_marks.ensures ∙ ap (map (renewed same_leg c.args.new)) c.deref-mut.ensures.value
+    let long : length c.renew_marks.new.marks ≡ c.args.marks.now.len = omega (arith, ap length c.renew_marks.ensures, length-map c.deref_mut.result.now (renewed same_leg c.args.new), c.deref_mut.ensures.len) in
+    with_items_is c.args.marks.now c.renew_marks.new.marks long ∙ c.renew_marks.ensures ∙ ap (map (renewed same_leg c.args.new)) c.deref_mut.ensures.value
