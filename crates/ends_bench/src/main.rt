@@ -1,4 +1,6 @@
 // Has a terminal's requests served by a switch over rings, and tells the time that it took: the proved side of bench/ends.sh.
+#![tactic(auto)]
+
 use anyhow::anyhow;
 use frames::CallId;
 use links::Ring;

@@ -54,7 +54,7 @@ fn fresh_pair(
     setting: Setting,
 ) -> Result<Pair<General, Faulty<Ring>, Faulty<Ring>>, MakeError>
     ensures view { IfOk result (λ p. view limit_in waits_in waits_in p ≡ fresh_state setting.channels) }
-    ensures user { made result (λ p. p.user ≡ setting.user) }
+    ensures user { IfOk result (λ p. p.user ≡ setting.user) }
 {
     let switch = fresh_switch(heap, setting.limit, setting.channels)?;
     let terminal = Terminal::new(heap)?;

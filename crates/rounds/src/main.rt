@@ -1,4 +1,6 @@
 // Plays a fixed run on a pair over links that lose and double frames, and prints each call, its outcome and the three sums after it.
+#![tactic(auto)]
+
 mod fresh;
 mod printing;
 mod run;

@@ -1,4 +1,6 @@
 // Makes every call of both ends and of the waiting line at its deepest, each from a function of its own: what bench/stack.sh looks into.
+#![tactic(auto)]
+
 use anyhow::anyhow;
 use frames::CallId;
 use links::{Faulty, Line, Link, Ring};
