@@ -9,7 +9,7 @@ use Rattle.text.specs.Fault.{after}
 use Rattle.text.specs.Text.{reads_text}
 use Rattle.frames.specs.Write.{writes}
 use Rattle.lister.specs.declared.lines.Lister.{Lister}
-use Rattle.lister.specs.Kept.{front, with_byte}
+use Rattle.lister.specs.Kept.{with_byte}
 use Rattle.lister.specs.Lines.{lines_from, rest_from, lines, rest, unbroken, each_unbroken, with_ends, Splits, last_line, most, printed, listings}
 use Rattle.lister.specs.Listing.{listing, outcome}
 use Rattle.lister.specs.Steps.{Progress, progress, ended, stepped, fed, finished, Feeds, Finishes}
