@@ -1,4 +1,6 @@
 // Passes frames through a ring and a line link, and tells the time that each took: the proved side of bench/links.sh.
+#![tactic(auto)]
+
 use links::{Line, Link, Ring};
 use std::time::Instant;
 

@@ -1,3 +1,7 @@
+pub mod Calls
 pub mod Lines
 pub mod Loops
+pub mod Packings
+pub mod Queues
 pub mod Rings
+pub mod Round

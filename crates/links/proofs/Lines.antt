@@ -8,8 +8,8 @@ use Rattle.text.specs.Text.{text, bytes}
 use Rattle.links.specs.Line.{line, after_line, in_lines}
 use Rattle.links.specs.Packing.{Begins, octets}
 use Rattle.links.proofs.Loops.{out_more}
-use Rattle.links.specs.Packings.{Lawful}
-use Rattle.links.specs.Packings as packings
+use Rattle.links.proofs.Packings.{Lawful}
+use Rattle.links.specs.SoundFrames as sound_frames
 
 digit_read : (v : ℕ) → v < 16 → digit_of (digit v) ≡ Some v
 digit_read v h = grind (arith, nat_tests)
@@ -51,7 +51,7 @@ after_read (b ∷ f) rest =
 
 pub lawful : Lawful in_lines
 lawful = record {
-  reads = λ f rest s. ap (λ x. bytes (line x)) (append_assoc (text f) (10 ∷ []) rest) ∙ ap bytes (line_read f rest) ∙ text_read f (packings.bytes in_lines f s);
+  reads = λ f rest s. ap (λ x. bytes (line x)) (append_assoc (text f) (10 ∷ []) rest) ∙ ap bytes (line_read f rest) ∙ text_read f (sound_frames.bytes in_lines f s);
   goes_on = λ f rest s. ap after_line (append_assoc (text f) (10 ∷ []) rest) ∙ after_read f rest;
   some = λ f. omega (arith, length-append (text f) (10 ∷ []));
   cost_written = λ f. omega (arith, length-append (text f) (10 ∷ []), length_text f);
@@ -114,7 +114,7 @@ module _ (whole memory : List ℕ) (n high : ℕ) (bs out : List ℕ) (b : Begin
       go (inr le) = let e : high ∷ bs ≡ 10 ∷ rest = r.left ∙ ap (λ x. text x ++ 10 ∷ rest) (drop_all n f le) in absurd (on (cc))
 
   pub below : (high ≡ 10 → ⊥) → n < 32
-  below on = let lt = more on in let hi = packings.high in_lines f b.sound_first in omega arith
+  below on = let lt = more on in let hi = sound_frames.high in_lines f b.sound_first in omega arith
 
   pub some_low : (high ≡ 10 → ⊥) → 0 < length bs
   some_low on =
@@ -129,7 +129,7 @@ module _ (whole memory : List ℕ) (n high : ℕ) (bs out : List ℕ) (b : Begin
         let t = turn (more on) in
         let h : high ≡ digit (get_or f n 0 / 16) = cc in
         let l : low ≡ digit (get_or f n 0 % 16) = cc in
-        let small = octet_at f n (packings.bytes in_lines f b.sound_first) (more on) in
+        let small = octet_at f n (sound_frames.bytes in_lines f b.sound_first) (more on) in
         ap (λ x. byte_of x low) h ∙ ap (λ x. byte_of (digit (get_or f n 0 / 16)) x) l
         ∙ ap (λ x. both x (digit_of (digit (get_or f n 0 % 16)))) (digit_read (get_or f n 0 / 16) (omega arith))
         ∙ ap (λ x. both (Some (get_or f n 0 / 16)) x) (digit_read (get_or f n 0 % 16) (omega arith))

@@ -3,7 +3,8 @@ use Rattle.std.proofs.Common.{◌≡◌, ℕ, ◌+◌, ◌<◌, ◌≤◌, List,
 use Rattle.std.proofs.lemmas.List.{take_at, drop_at, drop_more, take_more, take_all, length-append, length-take-le}
 use Rattle.links.specs.Ring.{in_ring}
 use Rattle.links.specs.Packing.{Begins}
-use Rattle.links.specs.Packings.{Lawful, high}
+use Rattle.links.specs.SoundFrames.{high}
+use Rattle.links.proofs.Packings.{Lawful}
 
 pub lawful : Lawful in_ring
 lawful = record {

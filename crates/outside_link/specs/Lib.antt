@@ -1,3 +1,3 @@
 pub mod Echo
+pub mod Framed
 pub mod Letters
-pub mod Echoes

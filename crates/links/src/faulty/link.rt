@@ -2,7 +2,6 @@
 ghost use Rattle.std.specs.Prelude.{◌≡◌};
 ghost use Rattle.links.specs.Faulty.{Faulted, PassedOn};
 ghost use Rattle.links.specs.Layer.{faulted};
-ghost use Rattle.std.proofs.Common.{rules, arith};
 
 use super::Faulty;
 use crate::checks;
@@ -50,15 +49,15 @@ impl<L: Link> Link for Faulty<L> {
 
     ghost takes = { λ a m b n r. PassedOn L.Link.takes a m b n r };
 
-    ghost low = { first_of (Prim.search rules, Prim.grind (arith, Self.row.coded.inj)) };
+    ghost low = { L.Link.low };
 
-    ghost high = { first_of (Prim.search rules, Prim.grind (arith, Self.row.coded.inj)) };
+    ghost high = { L.Link.high };
 
-    ghost framed = { first_of (Prim.search rules, Prim.grind (arith, Self.row.coded.inj)) };
+    ghost framed = { λ a. L.Link.framed a.lower };
 
     ghost sent = { λ a f b r k. faulted L.Link.sends L.Link.waits L.Link.longest L.Link.sent a f b r k };
 
-    ghost taken = { first_of (Prim.search rules, Prim.grind (arith, Self.row.coded.inj)) };
+    ghost taken = { λ a m b n r k. L.Link.taken a.lower m b.lower n r k.below };
 
     fn longest_frame() -> usize {
         L::longest_frame()

@@ -2,8 +2,8 @@
 ghost use Rattle.links.specs.Ring.{in_ring};
 ghost use Rattle.links.specs.Packing.{frames};
 ghost use Rattle.links.specs.Store.{Stores, HandsOut};
-ghost use Rattle.std.proofs.Common.{arith, rules};
-ghost use Rattle.links.specs.Packings;
+ghost use Rattle.std.proofs.Math.Dec.{lit≤};
+ghost use Rattle.links.specs.SoundFrames;
 ghost use Rattle.links.specs.Stores.{stores_sent, hands_taken};
 
 use super::Ring;
@@ -22,11 +22,11 @@ impl Link for Ring {
 
     ghost takes = { λ a m b n r. HandsOut in_ring a.queue m b.queue n r };
 
-    ghost low = { first_of (Prim.search rules, Prim.grind (arith, Self.row.coded.inj)) };
+    ghost low = { lit≤ tt };
 
-    ghost high = { first_of (Prim.search rules, Prim.grind (arith, Self.row.coded.inj)) };
+    ghost high = { lit≤ tt };
 
-    ghost framed = { λ a. Packings.framed in_ring (frames in_ring a.queue) (omega arith) a.framed };
+    ghost framed = { λ a. SoundFrames.framed in_ring (frames in_ring a.queue) (lit≤ tt) a.framed };
 
     ghost sent = { λ a f b r k. stores_sent in_ring a.queue f b.queue r k };
 

@@ -1,7 +1,7 @@
 use Rattle.std.proofs.Common.{◌-◌, sym, ap, ◌∙◌}
 use Rattle.links.specs.Line.{in_lines}
 use Rattle.links.proofs.Lines.{lawful}
-use Rattle.links.specs.Stores.{costs_used}
+use Rattle.links.proofs.Calls.{costs_used}
 use Rattle.links.proofs.line.Line.free.Goals as goal
 
 pub returns : goal.returns

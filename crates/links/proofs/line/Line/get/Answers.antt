@@ -2,7 +2,7 @@ use Rattle.std.proofs.Common.{◌<◌, length, sym, rules}
 use Rattle.std.proofs.lemmas.Bool.{ltb-false, eqb-true}
 use Rattle.links.specs.Line.{in_lines}
 use Rattle.links.proofs.Lines.{lawful}
-use Rattle.links.specs.Stores.{hands_nothing, first_frame, get_is_packed, get_is_sound, get_hands_out}
+use Rattle.links.proofs.Calls.{hands_nothing, first_frame, get_is_packed, get_is_sound, get_hands_out}
 use Rattle.links.proofs.line.Line.get.Goals as goal
 
 pub get-n-requires : goal.get-n-requires

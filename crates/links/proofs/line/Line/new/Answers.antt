@@ -1,7 +1,7 @@
 use Rattle.std.proofs.Common.{sym, ap, ◌∙◌, rules}
 use Rattle.links.specs.Packing.{pack, sound, unpack}
 use Rattle.links.specs.Line.{in_lines}
-use Rattle.links.specs.Packings.{unpack_none}
+use Rattle.links.proofs.Packings.{unpack_none}
 use Rattle.links.proofs.Lines.{lawful}
 use Rattle.links.proofs.line.Line.new.Goals as goal
 

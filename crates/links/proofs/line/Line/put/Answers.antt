@@ -1,7 +1,7 @@
 use Rattle.std.proofs.Common.{arith}
 use Rattle.links.specs.Line.{in_lines}
 use Rattle.links.proofs.Lines.{lawful}
-use Rattle.links.specs.Stores.{costs_used, put_is_packed, put_is_sound, put_waits}
+use Rattle.links.proofs.Calls.{costs_used, put_is_packed, put_is_sound, put_waits}
 use Rattle.links.proofs.line.Line.put.Goals as goal
 
 pub put-requires : goal.put-requires

@@ -3,7 +3,7 @@ use Rattle.links.specs.Line.{in_lines}
 use Rattle.links.specs.Packing.{Begins}
 use Rattle.links.specs.Queue.{held}
 use Rattle.links.proofs.Lines.{reading_first, some_first, below, some_low, next_byte, some_next, reading_next, stops, reading_all}
-use Rattle.links.specs.Queues.{length_held}
+use Rattle.links.proofs.Queues.{length_held}
 use Rattle.links.proofs.line.packing.get.Goals as goal
 
 pub pop-high-requires : goal.pop-high-requires

@@ -1,8 +1,8 @@
 use Rattle.std.proofs.Common.{◌≡◌, ◌-◌, ◌∷◌, get_or, vec_items, sym, ap, ◌∙◌, subst, arith, rules}
 use Rattle.std.proofs.lemmas.List.{get_or_read, get_or-take}
 use Rattle.links.specs.Queue.{cells, round}
-use Rattle.links.specs.Queues.{length_cells, place_spot}
-use Rattle.links.specs.Round.{popped, Spot}
+use Rattle.links.proofs.Queues.{length_cells, place_spot}
+use Rattle.links.proofs.Round.{popped, Spot}
 use Rattle.links.proofs.queue.ByteQueue.pop.Goals as goal
 
 pub returns : goal.returns

@@ -1,7 +1,7 @@
 use Rattle.std.proofs.Common.{◌+◌, vec_items, sym, ap, ◌∙◌, subst, arith, rules}
 use Rattle.links.specs.Queue.{cells, round}
-use Rattle.links.specs.Queues.{length_cells, place_spot}
-use Rattle.links.specs.Round.{pushed, take_set, Spot}
+use Rattle.links.proofs.Queues.{length_cells, place_spot}
+use Rattle.links.proofs.Round.{pushed, take_set, Spot}
 use Rattle.links.proofs.queue.ByteQueue.push.Goals as goal
 
 pub returns : goal.returns

@@ -1,7 +1,7 @@
 use Rattle.std.proofs.Common.{◌-◌, sym, ap, ◌∙◌}
 use Rattle.links.specs.Ring.{in_ring}
 use Rattle.links.proofs.Rings.{lawful}
-use Rattle.links.specs.Stores.{costs_used}
+use Rattle.links.proofs.Calls.{costs_used}
 use Rattle.links.proofs.ring.Ring.free.Goals as goal
 
 pub returns : goal.returns

@@ -1,7 +1,7 @@
 use Rattle.std.proofs.Common.{sym, ap, ◌∙◌, rules}
 use Rattle.links.specs.Packing.{pack, sound, unpack}
 use Rattle.links.specs.Ring.{in_ring}
-use Rattle.links.specs.Packings.{unpack_none}
+use Rattle.links.proofs.Packings.{unpack_none}
 use Rattle.links.proofs.Rings.{lawful}
 use Rattle.links.proofs.ring.Ring.new.Goals as goal
 

@@ -2,7 +2,7 @@ use Rattle.std.proofs.Common.{arith}
 use Rattle.links.specs.Ring.{in_ring}
 use Rattle.links.specs.Meanings.{fit_length}
 use Rattle.links.proofs.Rings.{lawful}
-use Rattle.links.specs.Stores.{costs_used, put_is_packed, put_is_sound, put_waits}
+use Rattle.links.proofs.Calls.{costs_used, put_is_packed, put_is_sound, put_waits}
 use Rattle.links.proofs.ring.Ring.put.Goals as goal
 
 pub put-requires : goal.put-requires

@@ -1,7 +1,7 @@
 use Rattle.std.proofs.Common.{◌≡◌, ◌<◌, ◌++◌, length, take, drop, set, ap, ◌∙◌, arith, length-drop, rules}
 use Rattle.links.specs.Queue.{held}
 use Rattle.links.proofs.Loops.{out_more}
-use Rattle.links.specs.Queues.{length_held}
+use Rattle.links.proofs.Queues.{length_held}
 use Rattle.links.proofs.Rings.{counted_fits, get_more, get_all}
 use Rattle.links.proofs.ring.packing.get.Goals as goal
 

@@ -4,7 +4,7 @@ use Rattle.links.specs.Checks.{unfit}
 use Rattle.links.specs.Meanings.{passes, refused_unfit, refused_fit}
 use Rattle.links.specs.Thin.{same}
 use Rattle.outside_link.specs.Echo.{waiting}
-use Rattle.outside_link.specs.Echoes.{joins}
+use Rattle.outside_link.proofs.Echoes.{joins}
 use Rattle.outside_link.proofs.echo.link.EchoLink.send.Goals as goal
 
 pub returns-in_err-check_frame : goal.returns-in_err-check_frame

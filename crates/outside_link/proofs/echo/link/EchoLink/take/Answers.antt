@@ -5,7 +5,8 @@ use Rattle.links.specs.Meanings.{passes, handed_out}
 use Rattle.links.specs.Thin.{same}
 use Rattle.outside_link.specs.Echo.{waiting}
 use Rattle.outside_link.specs.Letters.{content, contents}
-use Rattle.outside_link.specs.Echoes.{long, stays, goes}
+use Rattle.outside_link.specs.Framed.{long}
+use Rattle.outside_link.proofs.Echoes.{stays, goes}
 use Rattle.outside_link.proofs.echo.link.EchoLink.take.Goals as goal
 use Rattle.outside_link.proofs.echo.link.EchoLink.take.Goals.{then-self, else-self}
 
@@ -23,7 +24,7 @@ returns c =
     let some : 0 < length ls = search rules in
     let left : Thinned (contents ls) (content l ∷ contents (vec_items c.if-self.self.1.0)) =
     elim c.if-self.branch [
-      | then-self w ↦ goes ls _ l c.index.ensures some (ap (λ s. vec_items s.1.0) w.self-is ∙ w.remove.ensures.places.2)
+      | then-self w ↦ goes ls _ l c.index.ensures some (ap (λ s. vec_items s.1.0) w.self-is ∙ w.remove.ensures.by_index.2)
       | else-self w ↦ stays ls _ l c.index.ensures some (ap (λ s. vec_items s.1.0) w.self-is)
     ] in
     handed_out 8 c.args.out.now c.copy_to-n.new.out (content l) (contents ls) _ c.copy_to-n.result

@@ -1,10 +1,8 @@
 -- Laws of frames that stand in bytes, for any packing that can be read back. Assumes nothing.
 use Rattle.std.specs.Prelude.{◌≡◌, ℕ, zero, suc, ◌<◌, ◌≤◌, true, ◌&&◌, List, [], ◌∷◌, ◌++◌, length, nat_le, nat_lt, slice_index}
-use Rattle.std.proofs.Math.Path.{refl}
-use Rattle.std.proofs.Common.{sym, ap, ◌∙◌, append_assoc, append-nil, arith}
+use Rattle.std.proofs.Common.{sym, refl, ap, ◌∙◌, append_assoc, append-nil, arith}
 use Rattle.std.proofs.lemmas.List.{length-append}
-use Rattle.std.proofs.lemmas.Bool.{and_parts, and_from, ltb-true, leb-true, lt-ltb, le-leb}
-use Rattle.links.specs.Meaning.{Framed}
+use Rattle.std.proofs.lemmas.Bool.{and_parts, and_from, lt-ltb, le-leb}
 use Rattle.links.specs.Packing.{Packing, Begins, pack, unpack_in, unpack, costs, sound, sound_frame, octets}
 
 -- a packing that can be read back
@@ -19,29 +17,8 @@ pub all_octets : (f : List ℕ) → ((i : ℕ) → i < length f → slice_index 
 all_octets [] h = refl
 all_octets (b ∷ f) h = and_from (nat_lt b 256) (octets f) (lt-ltb b 256 (h 0 (omega arith))) (all_octets f (λ i lt. h (suc i) (omega arith)))
 
--- what a sound frame is
-module _ (p : Packing) (f : List ℕ) (s : sound_frame p f ≡ true) where
-  range : (nat_lt 0 (length f) && nat_le (length f) p.longest) ≡ true
-  range = (and_parts (nat_lt 0 (length f) && nat_le (length f) p.longest) (octets f) s).0
-
-  pub low : 0 < length f
-  low = ltb-true 0 (length f) (and_parts (nat_lt 0 (length f)) (nat_le (length f) p.longest) range).0
-
-  pub high : length f ≤ p.longest
-  high = leb-true (length f) p.longest (and_parts (nat_lt 0 (length f)) (nat_le (length f) p.longest) range).1
-
-  pub bytes : octets f ≡ true
-  bytes = (and_parts (nat_lt 0 (length f) && nat_le (length f) p.longest) (octets f) s).1
-
 pub sound_from : (p : Packing) (f : List ℕ) → 0 < length f → length f ≤ p.longest → octets f ≡ true → sound_frame p f ≡ true
 sound_from p f lo hi o = and_from (nat_lt 0 (length f) && nat_le (length f) p.longest) (octets f) (and_from (nat_lt 0 (length f)) (nat_le (length f) p.longest) (lt-ltb 0 (length f) lo) (le-leb (length f) p.longest hi)) o
-
-pub framed : (p : Packing) (w : List (List ℕ)) → p.longest ≤ 32 → sound p w ≡ true → Framed w
-framed p [] h s = tt
-framed p (f ∷ w) h s =
-    let both = and_parts (sound_frame p f) (sound p w) s in
-    let hi = high p f both.0 in
-    (low p f both.0, omega arith, framed p w h both.1)
 
 module _ (p : Packing) (l : Lawful p) where
   step : (k : ℕ) (bs : List ℕ) → 0 < length bs → unpack_in p (suc k) bs ≡ p.first bs ∷ unpack_in p k (p.after bs)

@@ -5,7 +5,7 @@ use Rattle.std.proofs.lemmas.List.{length-take-le}
 use Rattle.std.proofs.lemmas.Bool.{cond_both, ltb-true, ltb-false}
 use Rattle.links.specs.declared.queue.ByteQueue.{ByteQueue}
 use Rattle.links.specs.Queue.{cells, held, place}
-use Rattle.links.specs.Round.{Spot, length_round}
+use Rattle.links.proofs.Round.{Spot, length_round}
 
 pub length_cells : (q : ByteQueue) → length (cells q) ≡ q.size
 length_cells q = length-take-le q.size (vec_items q.memory) (omega (arith, q.memory.ok.0, q.within))

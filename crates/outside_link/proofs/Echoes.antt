@@ -1,20 +1,11 @@
 -- What the queue does is what a link may do. Assumes nothing.
-use Rattle.std.specs.Prelude.{◌≡◌, ℕ, ◌+◌, ◌<◌, List, [], ◌∷◌, ◌++◌, length, drop, slice_index_or, refl}
-use Rattle.std.proofs.Common.{sym, ap, subst, ◌∙◌, arith}
-use Rattle.std.proofs.lemmas.List.{length-take-le}
-use Rattle.links.specs.Meaning.{Framed}
+use Rattle.std.proofs.Common.{◌≡◌, ℕ, ◌<◌, List, [], ◌∷◌, ◌++◌, length, drop, sym, refl, ap, subst, ◌∙◌, arith}
+use Rattle.std.specs.Prelude.{slice_index_or}
 use Rattle.links.specs.Thinned.{Thinned}
 use Rattle.links.specs.Thinned.Thinned.{stands}
 use Rattle.links.specs.Thin.{same, equal}
 use Rattle.outside_link.specs.declared.letter.Letter.{Letter}
 use Rattle.outside_link.specs.Letters.{content, contents}
-
-pub long : (l : Letter) → length (content l) ≡ l.len
-long l = length-take-le l.len l.bytes (omega (arith, l.size, l.fits))
-
-pub framed : (ls : List Letter) → Framed (contents ls)
-framed [] = tt
-framed (l ∷ ls) = (omega (arith, long l, l.some), omega (arith, long l, l.fits), framed ls)
 
 contents_push : (ls : List Letter) (l : Letter) → contents (ls ++ l ∷ []) ≡ contents ls ++ content l ∷ []
 contents_push [] l = refl
