@@ -1,15 +1,15 @@
 #!/bin/sh
 # Measures requests served and answered a second, beside the same rules written plainly in Rust: sh bench/ends.sh
-# Wants the proved program of crates/ends_bench (rt check ends_bench) and rustc. Each figure is the best of seven runs, taken in turn.
+# Wants the proved program of crates/ends_bench (rt check in its folder) and rustc. Each figure is the best of seven runs, taken in turn.
 set -eu
 cd "$(dirname "$0")/.."
 requests=200000
-rt check ends_bench >/dev/null
+(cd crates/ends_bench && rt check) >/dev/null
 work=$(mktemp -d)
 trap 'rm -rf "$work"' EXIT
 rustc -O -o "$work/plain" bench/plain_ends.rs
 for run in 1 2 3 4 5 6 7; do
-    target/bin/ends_bench >"$work/proved.out" 2>>"$work/proved"
+    crates/ends_bench/out/ends_bench >"$work/proved.out" 2>>"$work/proved"
     "$work/plain" >"$work/plain.out" 2>>"$work/plain.times"
     cmp "$work/proved.out" "$work/plain.out"
 done

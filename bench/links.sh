@@ -1,15 +1,15 @@
 #!/bin/sh
 # Measures frames a second through a ring and a line link, beside the same written plainly in Rust: sh bench/links.sh
-# Wants the proved program of crates/link_bench (rt check link_bench) and rustc. Each figure is the best of seven runs, taken in turn.
+# Wants the proved program of crates/link_bench (rt check in its folder) and rustc. Each figure is the best of seven runs, taken in turn.
 set -eu
 cd "$(dirname "$0")/.."
 frames=2000000
-rt check link_bench >/dev/null
+(cd crates/link_bench && rt check) >/dev/null
 work=$(mktemp -d)
 trap 'rm -rf "$work"' EXIT
 rustc -O -o "$work/plain" bench/plain_links.rs
 for run in 1 2 3 4 5 6 7; do
-    target/bin/link_bench >"$work/proved.out" 2>>"$work/proved"
+    crates/link_bench/out/link_bench >"$work/proved.out" 2>>"$work/proved"
     "$work/plain" >"$work/plain.out" 2>>"$work/plain.times"
     cmp "$work/proved.out" "$work/plain.out"
 done
