@@ -1,4 +1,6 @@
 // The terminal on examples: every refusal, the ticks of a request, and each outcome of a frame received; and its promises at the ring.
+#![tactic(auto)]
+
 mod at_ring;
 #[cfg(test)]
 mod calls;
