@@ -1,5 +1,7 @@
 // The switch on examples: every refusal and their order, each outcome of a frame served, the notices and the waiting line; and its promises
 // at the ring.
+#![tactic(auto)]
+
 mod at_ring;
 #[cfg(test)]
 mod connecting;

@@ -7,23 +7,17 @@ use std::test::Fail;
 use switch::{MakeError, Parts};
 use text::Fault;
 
-fn refused_size(rt: &impl Abort, heap: Global, channels: u8) -> Result<(), Fail> {
+fn refused_size(rt: &impl Abort, heap: Global, channels: u8) {
     match Parts::new(heap, channels) {
-        Err(MakeError::Refused(fault)) => {
-            assert_eq!(rt; fault, Fault::in_making(53));
-            Ok(())
-        },
-        _ => {
-            assert!(rt; false);
-            Ok(())
-        },
+        Err(MakeError::Refused(fault)) => assert_eq!(rt; fault, Fault::in_making(53)),
+        _ => panic!(rt; "{channels} channels are not refused"),
     }
 }
 
 #[test]
 fn sizes(rt: HostRuntime) -> Result<(), Fail> {
-    refused_size(&rt, rt.alloc(), 0)?;
-    refused_size(&rt, rt.alloc(), 129)?;
+    refused_size(&rt, rt.alloc(), 0);
+    refused_size(&rt, rt.alloc(), 129);
     for channels in [1u8, 2, 128] {
         let mut switch = a_switch(rt.alloc(), 1, channels)?;
         assert_eq!(rt; switch.channels(), channels);

@@ -108,42 +108,38 @@ fn last_bit<R: Register>(switch: &Switch<R>, user: u32) -> bool {
     true
 }
 
-fn no_seat<R: Register>(
-    rt: &impl Abort,
-    switch: &mut Switch<R>,
-    user: u32,
-    number: u8,
-) -> Result<(), Fail> {
+// The checks below take the number of the step, and tell it where they fail.
+fn no_seat<R: Register>(rt: &impl Abort, at: usize, switch: &mut Switch<R>, user: u32, number: u8) {
     let before = switch.sessions().len();
     let told = switch.open_session(User(user));
-    assert_eq!(rt; told, Err(Fault::in_switch(number)));
-    assert_eq!(rt; switch.sessions().len(), before);
-    Ok(())
+    assert_eq!(rt; told, Err(Fault::in_switch(number)), "step {at}");
+    assert_eq!(rt; switch.sessions().len(), before, "step {at}");
 }
 
 fn no_join<R: Register>(
     rt: &impl Abort,
+    at: usize,
     switch: &mut Switch<R>,
     call: u16,
     first: u32,
     second: u32,
     number: u8,
-) -> Result<(), Fail> {
+) {
     let channels = switch.channels_in_use();
     let records = switch.records().len();
     let last = switch.last_identifier();
     let told = switch.connect(CallId(call), User(first), User(second));
-    assert_eq!(rt; told, Err(Fault::in_switch(number)));
-    assert_eq!(rt; switch.channels_in_use(), channels);
-    assert_eq!(rt; switch.records().len(), records);
-    assert_eq!(rt; switch.last_identifier(), last);
-    Ok(())
+    assert_eq!(rt; told, Err(Fault::in_switch(number)), "step {at}");
+    assert_eq!(rt; switch.channels_in_use(), channels, "step {at}");
+    assert_eq!(rt; switch.records().len(), records, "step {at}");
+    assert_eq!(rt; switch.last_identifier(), last, "step {at}");
 }
 
 // A frame is served: this is told of it, and this comes down, and nothing else.
 fn serve<R: Register>(
     rt: &impl Abort,
     heap: Global,
+    at: usize,
     switch: &mut Switch<R>,
     user: u32,
     frame: Frame,
@@ -153,62 +149,65 @@ fn serve<R: Register>(
     let mut up = a_ring(heap)?;
     let mut down = a_ring(heap)?;
     post(&mut up, frame)?;
-    assert_eq!(rt; switch.serve(User(user), &mut up, &mut down), told);
-    assert_eq!(rt; pull(&mut up), Ok(None));
-    assert_eq!(rt; pull(&mut down), Ok(answer));
-    assert_eq!(rt; pull(&mut down), Ok(None));
+    assert_eq!(rt;
+        switch.serve(User(user), &mut up, &mut down),
+        told,
+        "step {at}"
+    );
+    assert_eq!(rt; pull(&mut up), Ok(None), "step {at}");
+    assert_eq!(rt; pull(&mut down), Ok(answer), "step {at}");
+    assert_eq!(rt; pull(&mut down), Ok(None), "step {at}");
     Ok(())
 }
 
 fn notify<R: Register>(
     rt: &impl Abort,
     heap: Global,
+    at: usize,
     switch: &mut Switch<R>,
     user: u32,
     told: Notified,
     sent: Option<Frame>,
 ) -> Result<(), Fail> {
     let mut down = a_ring(heap)?;
-    assert_eq!(rt; switch.notify(User(user), &mut down), Ok(told));
-    assert_eq!(rt; pull(&mut down), Ok(sent));
-    assert_eq!(rt; pull(&mut down), Ok(None));
+    assert_eq!(rt; switch.notify(User(user), &mut down), Ok(told), "step {at}");
+    assert_eq!(rt; pull(&mut down), Ok(sent), "step {at}");
+    assert_eq!(rt; pull(&mut down), Ok(None), "step {at}");
     Ok(())
 }
 
 fn take_step<R: Register>(
     rt: &impl Abort,
     heap: Global,
+    at: usize,
     switch: &mut Switch<R>,
     step: Step,
 ) -> Result<(), Fail> {
     match step {
         Step::Seat(user) => {
-            assert_eq!(rt; switch.open_session(User(user)), Ok(()));
-            Ok(())
-        },
-        Step::NoSeat(user, number) => no_seat(rt, switch, user, number),
+            assert_eq!(rt; switch.open_session(User(user)), Ok(()), "step {at}");
+        }
+        Step::NoSeat(user, number) => no_seat(rt, at, switch, user, number),
         Step::Join(call, first, second) => {
-            assert_eq!(rt;
-                switch.connect(CallId(call), User(first), User(second)),
-                Ok(())
-            );
-            Ok(())
-        },
-        Step::NoJoin(call, first, second, number) => no_join(
-            rt, switch, call, first, second, number,
-        ),
+            let told = switch.connect(CallId(call), User(first), User(second));
+            assert_eq!(rt; told, Ok(()), "step {at}");
+        }
+        Step::NoJoin(call, first, second, number) => {
+            no_join(rt, at, switch, call, first, second, number);
+        }
         Step::Ask(user, handled) => {
             let bit = !last_bit(switch, user);
             let told = Ok(Served::Fresh(handled, None));
             serve(
                 rt,
                 heap,
+                at,
                 switch,
                 user,
                 request(bit, handled),
                 told,
                 Some(answer(bit, handled)),
-            )
+            )?;
         }
         Step::Again(user, asked, handled) => {
             let bit = last_bit(switch, user);
@@ -216,24 +215,26 @@ fn take_step<R: Register>(
             serve(
                 rt,
                 heap,
+                at,
                 switch,
                 user,
                 request(bit, asked),
                 told,
                 Some(answer(bit, handled)),
-            )
+            )?;
         }
         Step::Refuse(user, bit, body, number) => {
             let told = Err(Fault::in_switch(number));
             serve(
                 rt,
                 heap,
+                at,
                 switch,
                 user,
                 frame(bit, CallId(5), body),
                 told,
                 None,
-            )
+            )?;
         }
         Step::Tell(user, call, news) => {
             let call = CallId(call);
@@ -241,30 +242,32 @@ fn take_step<R: Register>(
             notify(
                 rt,
                 heap,
+                at,
                 switch,
                 user,
                 told,
                 Some(frame(false, call, Body::Notice(news))),
-            )
+            )?;
         }
-        Step::Silent(user) => notify(rt, heap, switch, user, Notified::Nothing, None),
+        Step::Silent(user) => notify(rt, heap, at, switch, user, Notified::Nothing, None)?,
         Step::Clear(call, held) => {
-            assert_eq!(rt; switch.clear(CallId(call)), Ok(held));
-            Ok(())
-        },
+            assert_eq!(rt; switch.clear(CallId(call)), Ok(held), "step {at}");
+        }
         Step::NoClear(call) => {
-            assert_eq!(rt; switch.clear(CallId(call)), Err(Fault::in_switch(38)));
-            Ok(())
-        },
+            assert_eq!(rt;
+                switch.clear(CallId(call)),
+                Err(Fault::in_switch(38)),
+                "step {at}"
+            );
+        }
         Step::Channels(used) => {
-            assert_eq!(rt; switch.channels_in_use(), used);
-            Ok(())
-        },
+            assert_eq!(rt; switch.channels_in_use(), used, "step {at}");
+        }
         Step::Records(records) => {
-            assert_eq!(rt; switch.records().len(), records);
-            Ok(())
-        },
+            assert_eq!(rt; switch.records().len(), records, "step {at}");
+        }
     }
+    Ok(())
 }
 
 // Takes the steps one after the other.
@@ -275,7 +278,7 @@ pub fn play<R: Register>(
     steps: &[Step],
 ) -> Result<(), Fail> {
     for (i, next) in steps.iter().enumerate() {
-        take_step(rt, heap, switch, *next).note(format_args!("step {i}"))?;
+        take_step(rt, heap, i, switch, *next)?;
     }
     Ok(())
 }
