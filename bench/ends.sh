@@ -1,10 +1,10 @@
 #!/bin/sh
 # Measures requests served and answered a second, beside the same rules written plainly in Rust: sh bench/ends.sh
-# Wants the proved program of crates/ends_bench (rt check in its folder) and rustc. Each figure is the best of seven runs, taken in turn.
+# Wants the proved program of crates/ends_bench (rt run in its folder) and rustc. Each figure is the best of seven runs, taken in turn.
 set -eu
 cd "$(dirname "$0")/.."
 requests=200000
-(cd crates/ends_bench && rt check) >/dev/null
+(cd crates/ends_bench && rt run) >/dev/null 2>&1
 work=$(mktemp -d)
 trap 'rm -rf "$work"' EXIT
 rustc -O -o "$work/plain" bench/plain_ends.rs

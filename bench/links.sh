@@ -1,10 +1,10 @@
 #!/bin/sh
 # Measures frames a second through a ring and a line link, beside the same written plainly in Rust: sh bench/links.sh
-# Wants the proved program of crates/link_bench (rt check in its folder) and rustc. Each figure is the best of seven runs, taken in turn.
+# Wants the proved program of crates/link_bench (rt run in its folder) and rustc. Each figure is the best of seven runs, taken in turn.
 set -eu
 cd "$(dirname "$0")/.."
 frames=2000000
-(cd crates/link_bench && rt check) >/dev/null
+(cd crates/link_bench && rt run) >/dev/null 2>&1
 work=$(mktemp -d)
 trap 'rm -rf "$work"' EXIT
 rustc -O -o "$work/plain" bench/plain_links.rs
