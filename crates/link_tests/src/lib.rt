@@ -1,6 +1,6 @@
+// The links on examples: full memory at every place of the wrap, the longest frames, unfit memory, lost and doubled sends, a link from outside.
 #![tactic(auto)]
 
-// The links on examples: full memory at every place of the wrap, the longest frames, unfit memory, lost and doubled sends, a link from outside.
 #[cfg(test)]
 mod faulty;
 #[cfg(test)]
