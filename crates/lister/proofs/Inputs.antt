@@ -1,8 +1,11 @@
 -- What the steps over the bytes of an input are for whole inputs. Assumes nothing.
-use Rattle.std.proofs.Common.{◌≡◌, ℕ, ◌+◌, ◌<◌, ◌≤◌, min, true, false, cond, not, eqb, ltb, List, [], ◌∷◌, ◌++◌, length, get_or, take, drop, Err, codes, Result, sym, refl, ap, ◌∙◌, subst, ⊎_elim, append_assoc, append-nil, arith, length-append, length-take}
-use Rattle.std.proofs.lemmas.List.{take_all, take-append-le, drop_more, drop_all, length_push}
+use Rattle.std.proofs.Common.{◌≡◌, ℕ, ◌+◌, ◌<◌, min, true, false, cond, not, eqb, ltb, List, [], ◌∷◌, ◌++◌, length, take, Err, codes, Result, sym, refl, ap, ◌∙◌, subst, ⊎_elim, append_assoc, append-nil, arith, length-append, length-take}
+use Rattle.std.proofs.lemmas.List.{take_all, take-append-le, length_push}
 use Rattle.std.proofs.lemmas.Bool.{cond-true, cond-false, cases_lt, lt-ltb, le-ltb, eqb-true, and_from, and_parts, not_from_false}
+use Rattle.text.specs.declared.buffer.Buffer.{Buffer}
 use Rattle.text.specs.declared.fault.Fault.{Fault}
+use Rattle.text.specs.Octets.{held}
+use Rattle.text.proofs.Filling.{held_length}
 use Rattle.text.specs.Fault.{in_line}
 use Rattle.frames.specs.Read.{reads}
 use Rattle.text.specs.Fault.{after}
@@ -12,7 +15,7 @@ use Rattle.lister.specs.declared.lines.Lister.{Lister}
 use Rattle.lister.specs.Kept.{with_byte}
 use Rattle.lister.specs.Lines.{lines_from, rest_from, lines, rest, unbroken, each_unbroken, with_ends, Splits, last_line, most, printed, listings}
 use Rattle.lister.specs.Listing.{listing, outcome}
-use Rattle.lister.specs.Steps.{Progress, progress, ended, stepped, fed, finished, Feeds, Finishes}
+use Rattle.lister.specs.Steps.{Progress, progress, ended, fed, finished, Feeds, Finishes}
 
 -- one line after another
 
@@ -95,6 +98,10 @@ one_more_byte part b =
     ∙ sym (take-append-le 65 part (b ∷ []) h))
     (cases_lt (length part) 65)
 
+-- what a buffer of 65 bytes keeps
+pub kept_byte : (k : Buffer 65) (b : ℕ) → take 65 (held k ++ b ∷ []) ≡ with_byte (held k) b
+kept_byte k b = sym (one_more_byte (held k) b) ∙ ap (λ l. with_byte l b) (take_all 65 (held k) (omega (arith, held_length k, k.fits)))
+
 -- from a progress to one after these lines and this rest
 pub record Goes (p q : Progress) (n : ℕ) (ls : List (List ℕ)) (left : List ℕ) : Type 0 where
   pub count : q.count ≡ min most (n + length ls)
@@ -154,13 +161,6 @@ goes (b ∷ bs) p n part ec ep =
           let g = goes bs kept n (part ++ b ∷ []) ec (ap (λ l. with_byte l b) ep ∙ one_more_byte part b) in
           record { count = g.count; part = g.part; text = g.text }
     ]
-
--- a turn over the bytes of a chunk
-pub fed_next : (chunk : List ℕ) (i : ℕ) (p q z : Progress) → i < length chunk → q ≡ stepped p (get_or chunk i 0) → fed p (drop i chunk) ≡ z → fed q (drop (i + 1) chunk) ≡ z
-fed_next chunk i p q z h e inv = ap (λ (r : Progress). fed r (drop (i + 1) chunk)) e ∙ sym (ap (fed p) (drop_more chunk i 0 h)) ∙ inv
-
-pub fed_all : (chunk : List ℕ) (i : ℕ) (p z : Progress) → length chunk ≤ i → fed p (drop i chunk) ≡ z → p ≡ z
-fed_all chunk i p z h inv = ap (fed p) (sym (drop_all i chunk h)) ∙ inv
 
 -- bytes come after an input
 pub feeds : (s s' : Lister) (chunk out out' : List ℕ) → progress s' out' ≡ fed (progress s out) chunk → Feeds s s' chunk out out'

@@ -4,18 +4,19 @@ ghost use Rattle.lister.specs.Kept.{front};
 ghost use Rattle.lister.specs.Lines.{most};
 ghost use Rattle.lister.specs.Steps.{progress, ended, stepped, fed, finished, Stands, Feeds, Finishes};
 
-use crate::kept::Kept;
 use crate::listing::listed;
 use std::alloc::{AllocError, Global};
+use text::Buffer;
 
 // As many lines are listed at most.
 const MOST: u32 = 9_999;
 
-// How many lines have been told, and the first bytes of the line that has not ended.
+// How many lines have been told, and the first bytes of the line that has not ended: one more than a frame's text may have,
+// so that a longer line shows.
 #[derive(Clone, Copy)]
 pub struct Lister {
     told: u32,
-    kept: Kept,
+    kept: Buffer<65>,
 }
 
 impl Lister {
@@ -25,7 +26,7 @@ impl Lister {
     {
         Lister {
             told: 0,
-            kept: Kept::none(),
+            kept: Buffer::empty(),
         }
     }
 
@@ -40,7 +41,7 @@ impl Lister {
     fn is_open(&self) -> bool
         ensures { result ≡ nat_lt 0 (length (front self.now.kept)) }
     {
-        self.kept.len() > 0
+        !self.kept.as_slice().is_empty()
     }
 
     // A line ends: prints it, unless as many as are listed have been told.
@@ -50,15 +51,16 @@ impl Lister {
         if self.told < MOST {
             let number = self.told + 1;
             let text = listed(heap, number, self.kept.as_slice())?;
-            let line = format!(in heap; "{text}\n")?;
-            out.push_str(line.as_str())?;
+            out.push_str(text.as_str())?;
+            out.push('\n')?;
             self.told = number;
         }
-        self.kept.clear();
+        self.kept = Buffer::empty();
         Ok(())
     }
 
     // The next byte of the input.
+    #[tactic(auto, using(crate::proofs::Inputs::kept_byte))]
     fn step(&mut self, heap: Global, byte: u8, out: &mut String) -> Result<(), AllocError>
         ensures { OnOk result (progress self.new (string_bytes out.new) ≡ stepped (progress self.old (string_bytes out.old)) byte) }
     {

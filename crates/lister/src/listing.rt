@@ -24,17 +24,13 @@ fn accept(heap: Global, number: u32, bytes: &[u8]) -> Result<String, AllocError>
     format!(in heap; "{number} OK {text}")
 }
 
-fn refuse(
-    heap: Global,
-    number: u32,
-    refusal: u8,
-    place: Option<usize>,
-) -> Result<String, AllocError>
-    ensures { IfOk result (λ s. string_bytes s ≡ refused_at number refusal place) }
+// A fault without its layer, since a line's are those of the line and of the frame in it.
+fn refuse(heap: Global, number: u32, fault: Fault) -> Result<String, AllocError>
+    ensures { IfOk result (λ s. string_bytes s ≡ refused_at number fault.number fault.place) }
 {
-    match place {
-        Some(place) => format!(in heap; "{number} NO {refusal} {place}"),
-        None => format!(in heap; "{number} NO {refusal}"),
+    match fault.place {
+        Some(place) => format!(in heap; "{number} NO {} {place}", fault.number),
+        None => format!(in heap; "{number} NO {}", fault.number),
     }
 }
 
@@ -44,6 +40,6 @@ pub fn listed(heap: Global, number: u32, line: &[u8]) -> Result<String, AllocErr
 {
     match write_anew(line) {
         Ok(octets) => accept(heap, number, octets.as_slice()),
-        Err(fault) => refuse(heap, number, fault.number, fault.place),
+        Err(fault) => refuse(heap, number, fault),
     }
 }

@@ -1,7 +1,6 @@
 // Lists the frames of standard input: for each line its number, then `OK` and the frame written anew, or `NO`, the refusal's number and its place.
 #![tactic(auto)]
 
-mod kept;
 mod lines;
 mod listing;
 #[cfg(test)]

@@ -1,7 +1,7 @@
 -- The frames that wait in the queue. Assumes nothing.
-use Rattle.std.specs.Prelude.{ℕ, List, vec_items}
+use Rattle.std.specs.Prelude.{ℕ, List, map, vec_items}
+use Rattle.text.specs.Octets.{held}
 use Rattle.outside_link.specs.declared.echo.Echo.{Echo}
-use Rattle.outside_link.specs.Letters.{contents}
 
 abbrev pub waiting : Echo → List (List ℕ)
-waiting e = contents (vec_items e.letters)
+waiting e = map held (vec_items e.letters)

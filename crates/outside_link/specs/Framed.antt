@@ -1,14 +1,13 @@
--- A frame that waits has the length of its letter. Assumes nothing.
-use Rattle.std.specs.Prelude.{◌≡◌, List, [], ◌∷◌, length}
+-- A frame that waits has 1 to 8 bytes. Assumes nothing.
+use Rattle.std.specs.Prelude.{◌<◌, List, [], ◌∷◌, length, map}
+use Rattle.std.specs.List.{All}
 use Rattle.std.proofs.Common.{arith}
-use Rattle.std.proofs.lemmas.List.{length-take-le}
+use Rattle.std.proofs.lemmas.List.Elements.{All-head, All-tail}
 use Rattle.links.specs.Meaning.{Framed}
-use Rattle.outside_link.specs.declared.letter.Letter.{Letter}
-use Rattle.outside_link.specs.Letters.{content, contents}
+use Rattle.text.specs.declared.buffer.Buffer.{Buffer}
+use Rattle.text.specs.Octets.{held}
+use Rattle.text.proofs.Filling.{held_length}
 
-pub long : (l : Letter) → length (content l) ≡ l.len
-long l = length-take-le l.len l.bytes (omega (arith, l.size, l.fits))
-
-pub framed : (ls : List Letter) → Framed (contents ls)
-framed [] = tt
-framed (l ∷ ls) = (omega (arith, long l, l.some), omega (arith, long l, l.fits), framed ls)
+pub framed : (ls : List (Buffer 8)) → All (λ (l : Buffer 8). 0 < length (held l)) ls → Framed (map held ls)
+framed [] a = tt
+framed (l ∷ ls) a = (All-head (λ (l : Buffer 8). 0 < length (held l)) l ls a, omega (arith, held_length l, l.fits), framed ls (All-tail (λ (l : Buffer 8). 0 < length (held l)) l ls a))

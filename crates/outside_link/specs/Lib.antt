@@ -1,3 +1,2 @@
 pub mod Echo
 pub mod Framed
-pub mod Letters

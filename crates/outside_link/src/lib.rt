@@ -2,6 +2,5 @@
 #![tactic(auto)]
 
 mod echo;
-mod letter;
 
 pub use echo::Echo;

@@ -1,24 +1,15 @@
--- Octets filled up with more bytes, as far as there is room. Assumes nothing.
-use Rattle.std.proofs.Common.{◌≡◌, ℕ, ◌+◌, ◌-◌, ◌≤◌, min, List, ◌++◌, length, take, sym, ap, ◌∙◌, ⊎_elim, arith}
-use lib.Seq.{take-append-add}
-use Rattle.std.proofs.lemmas.List.{take_all, length-take-le}
-use Rattle.std.proofs.lemmas.Bool.{cases_lt}
-use Rattle.text.specs.declared.octets.Octets.{Octets}
+-- A buffer filled up with more bytes, as far as there is room. Assumes nothing.
+use Rattle.std.proofs.Common.{◌≡◌, ℕ, ◌-◌, ◌≤◌, min, List, ◌++◌, length, take, sym, ap, ◌∙◌, arith}
+use Rattle.std.proofs.lemmas.List.{take_min, length-take-le}
+use Rattle.std.proofs.Math.Seq.{take-append-add}
+use Rattle.text.specs.declared.buffer.Buffer.{Buffer}
 use Rattle.text.specs.Octets.{held}
 
-pub held_length : (o : Octets) → length (held o) ≡ o.len
-held_length o = length-take-le o.len o.bytes (omega (arith, o.size, o.fits))
+pub held_length : {n : ℕ} (b : Buffer n) → length (held b) ≡ b.len
+held_length b = length-take-le b.len b.bytes (omega (arith, b.size, b.fits))
 
-same_front : (more : List ℕ) (i k : ℕ) → i ≡ min (length more) k → take i more ≡ take k more
-same_front more i k e =
-    ⊎_elim
-    (λ h. ap (λ n. take n more) (omega arith))
-    (λ h. take_all i more (omega arith) ∙ sym (take_all k more h))
-    (cases_lt k (length more))
-
-pub filled : (start more : List ℕ) (i : ℕ) → length start ≤ 32 → i ≡ min (length more) (32 - length start) → start ++ take i more ≡ take 32 (start ++ more)
-filled start more i room e =
-    let whole : length start + (32 - length start) ≡ 32 = omega arith in
-    ap (λ l. start ++ l) (same_front more i (32 - length start) e)
-    ∙ sym (take-append-add start more (32 - length start))
-    ∙ ap (λ n. take n (start ++ more)) whole
+pub filled : (start more : List ℕ) (n k : ℕ) → length start ≤ n → k ≡ min (length more) (n - length start) → start ++ take k more ≡ take n (start ++ more)
+filled start more n k room e =
+    ap (λ l. start ++ l) (ap (λ m. take m more) (omega arith) ∙ take_min (n - length start) more)
+    ∙ sym (take-append-add start more (n - length start))
+    ∙ ap (λ m. take m (start ++ more)) (omega arith)

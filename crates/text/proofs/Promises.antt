@@ -1,9 +1,8 @@
 -- The law of bytes and their text, put together for the calls that promise it. Assumes nothing.
 use Rattle.std.proofs.Common.{◌≡◌, ℕ, ◌<◌, ◌≤◌, List, length, IfOk, Ok, Err, Result, sym, ap, ◌∙◌}
 use Rattle.text.specs.declared.fault.Fault.{Fault}
-use Rattle.text.specs.declared.octets.Octets.{Octets}
 use Rattle.text.specs.Laws.{Bytes, Spelling}
-use Rattle.text.specs.Octets.{held}
+use Rattle.text.specs.Octets.{Octets, held}
 use Rattle.text.specs.Text.{text, reads_text, told_octets}
 use Rattle.text.proofs.Spelling.{spelled, read_again}
 

@@ -25,7 +25,7 @@ pair_back h l v w p q =
 
 -- a byte that is a digit has a value
 valued : (o : Option ℕ) (i : ℕ) (x : Option ℕ) → cond (is_some o) x (Some i) ≡ None → (o ≡ Some (unwrap_or o 0)) × (x ≡ None)
-valued None i x e = let z : ◌≡◌ {A = ℕ} 0 1 = cc in absurd (omega arith)
+valued None i x e = cc
 valued (Some v) i x e = (refl, e)
 
 -- an even number of digits, written anew
@@ -39,7 +39,7 @@ respelled i (h ∷ l ∷ ds) e even =
 
 -- where bytes come of a line, it has digits alone, two for each byte
 clean : (o : Option ℕ) (line bs : List ℕ) → all_digits o line ≡ Ok bs → (o ≡ None) × (bytes line ≡ bs)
-clean (Some i) line bs e = let z : ◌≡◌ {A = ℕ} 0 1 = cc in absurd (omega arith)
+clean (Some i) line bs e = cc
 clean None line bs e = (refl, cc)
 
 pub spelled : (line bs : List ℕ) → reads_text line ≡ Ok bs → text bs ≡ line

@@ -2,10 +2,9 @@
 use Rattle.std.specs.Prelude.{ℕ, ◌+◌, ◌*◌, ◌%◌, cond, ◌||◌, List, [], ◌∷◌, ◌++◌, length, is_some, Some, None, Ok, Err, Option, Result, ◌==◌, nat_lt}
 use Rattle.std.specs.Option.{unwrap_or}
 use Rattle.text.specs.declared.fault.Fault.{Fault}
-use Rattle.text.specs.declared.octets.Octets.{Octets}
 use Rattle.text.specs.Fault.{in_line, after, unless}
 use Rattle.text.specs.Hex.{digit_of, pair}
-use Rattle.text.specs.Octets.{held}
+use Rattle.text.specs.Octets.{Octets, held}
 
 -- what is written of bytes
 abbrev pub text : List ℕ → List ℕ

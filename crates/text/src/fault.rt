@@ -1,6 +1,6 @@
 // A refusal: its number, the layer that checked, and the place where one is given. Every layer hands it up unchanged.
-ghost use Rattle.std.specs.Prelude.{◌≡◌};
-ghost use Rattle.text.specs.Fault.{in_line, in_frame, in_link, in_terminal, in_switch, in_making};
+ghost use Rattle.std.specs.Prelude.{◌≡◌, None, Some};
+ghost use Rattle.text.specs.Fault.{of_layer};
 
 #[derive(Clone, Copy, Debug, PartialEq, Eq)]
 pub enum Layer {
@@ -20,69 +20,24 @@ pub struct Fault {
 }
 
 impl Fault {
-    // A refusal of a text line, at a place in it.
-    pub fn in_line(number: u8, place: usize) -> Fault
-        ensures { result ≡ in_line number place }
+    // A refusal with no place.
+    pub fn new(layer: Layer, number: u8) -> Fault
+        ensures { result ≡ of_layer layer number None }
     {
         Fault {
             number,
-            layer: Layer::Line,
+            layer,
+            place: None,
+        }
+    }
+
+    // A refusal at a place in what was checked.
+    pub fn at(layer: Layer, number: u8, place: usize) -> Fault
+        ensures { result ≡ of_layer layer number (Some place) }
+    {
+        Fault {
             place: Some(place),
-        }
-    }
-
-    // A refusal of a frame, at a place in it.
-    pub fn in_frame(number: u8, place: usize) -> Fault
-        ensures { result ≡ in_frame number place }
-    {
-        Fault {
-            number,
-            layer: Layer::Frame,
-            place: Some(place),
-        }
-    }
-
-    // A refusal of a link.
-    pub fn in_link(number: u8) -> Fault
-        ensures { result ≡ in_link number }
-    {
-        Fault {
-            number,
-            layer: Layer::Link,
-            place: None,
-        }
-    }
-
-    // A refusal of a terminal.
-    pub fn in_terminal(number: u8) -> Fault
-        ensures { result ≡ in_terminal number }
-    {
-        Fault {
-            number,
-            layer: Layer::Terminal,
-            place: None,
-        }
-    }
-
-    // A refusal of a switch.
-    pub fn in_switch(number: u8) -> Fault
-        ensures { result ≡ in_switch number }
-    {
-        Fault {
-            number,
-            layer: Layer::Switch,
-            place: None,
-        }
-    }
-
-    // A refusal of what something is made from.
-    pub fn in_making(number: u8) -> Fault
-        ensures { result ≡ in_making number }
-    {
-        Fault {
-            number,
-            layer: Layer::Making,
-            place: None,
+            ..Fault::new(layer, number)
         }
     }
 }

@@ -18,7 +18,7 @@ pub fn digit_value(byte: u8) -> Option<u8>
     ensures { result ≡ digit_of byte }
 {
     let value = entry(&VALUES, byte);
-    if value == NO_DIGIT { None } else { Some(value) }
+    (value != NO_DIGIT).then_some(value)
 }
 
 // The digit of a value below 16.

@@ -3,13 +3,15 @@
 // of, and that no two lines spell the same bytes. It uses `std` alone.
 #![tactic(auto)]
 
+mod buffer;
 mod fault;
 mod hex;
 mod line;
-mod octets;
+mod refusal;
 mod values;
+mod words;
 
+pub use buffer::{Buffer, Octets};
 pub use fault::{Fault, Layer};
 pub use hex::{byte, digit_value, digits};
 pub use line::{read_text, write_text};
-pub use octets::Octets;

@@ -1,4 +1,5 @@
-// The value of each byte as a hexadecimal digit.
+// The value of each byte as a hexadecimal digit. One number stands for no digit, and no `Option`, so that the table is 256 bytes and its
+// rule is tested once over all entries.
 
 // What stands for no digit.
 pub(crate) const NO_DIGIT: u8 = 255;

@@ -6,10 +6,9 @@ ghost use Rattle.outside_link.specs.Framed;
 ghost use Rattle.std.proofs.Math.Dec.{lit≤};
 
 use super::Echo;
-use crate::letter::Letter;
-use links::{Link, Longest};
+use links::{Link, Longest, Refusal};
 use std::alloc::{AllocError, Global};
-use text::Fault;
+use text::{Buffer, Fault};
 
 impl Echo {
     // An empty queue, with memory for four frames; no later call wants any.
@@ -40,7 +39,7 @@ impl Link for Echo {
 
     ghost high = { lit≤ tt };
 
-    ghost framed = { λ a. Framed.framed a.letters.items };
+    ghost framed = { λ a. Framed.framed a.letters.items a.some };
 
     ghost sent = { λ a f b r k. k };
 
@@ -52,29 +51,31 @@ impl Link for Echo {
 
     fn send(&mut self, frame: &[u8]) -> Result<(), Fault> {
         links::check_frame(frame, 8)?;
-        let turn = self.turn;
-        self.turn = if turn < 2 { turn + 1 } else { 0 };
-        if turn >= 2 {
-            return Err(Fault::in_link(43));
+        let third = self.turn == 2;
+        self.turn = (self.turn + 1) % 3;
+        if third {
+            return Err(Refusal::Declined.into());
         }
         if self.letters.len() == 4 {
-            return Err(Fault::in_link(43));
+            return Err(Refusal::Declined.into());
         }
-        self.letters.push_reserved(Letter::of(frame));
+        let mut letter = Buffer::empty();
+        letter.append(frame);
+        self.letters.push_reserved(letter);
         Ok(())
     }
 
     fn take(&mut self, out: &mut [u8]) -> Result<Option<usize>, Fault> {
         links::check_taking(out)?;
-        if self.letters.is_empty() {
+        let Some(&first) = self.letters.first() else {
             return Ok(None);
-        }
-        let first = self.letters[0];
-        let n = first.copy_to(out);
+        };
+        let frame = first.as_slice();
+        out[..frame.len()].copy_from_slice(frame);
         if self.again {
             self.letters.remove(0);
         }
         self.again = !self.again;
-        Ok(Some(n))
+        Ok(Some(frame.len()))
     }
 }

@@ -1,9 +1,12 @@
-use Rattle.std.proofs.lemmas.Result.{IfOk-weaker}
+use Rattle.std.proofs.Common.{◌++◌, string_bytes, sym, ap, ◌∙◌, append-nil}
+use Rattle.std.proofs.lemmas.List.{drop_all}
+use Rattle.text.specs.Text.{text}
 use Rattle.text.proofs.Promises.{write_text_promise}
 use Rattle.text.proofs.line.write_text.Goals as goal
 
-pub returns : goal.returns
-returns c = record {
-  outcome = c.spell.ensures;
-  spelling = λ some few. IfOk-weaker c.spell.result _ _ (λ s e. write_text_promise c.args.bytes.now _ (λ i. (c.type_inv.bytes i).fits) e some few) c.spell.ensures;
-}
+pub returns-clause-spelling : goal.returns-clause-spelling
+returns-clause-spelling c some few =
+    let bytes = c.args.bytes.now in
+    let out = string_bytes c.loop-b.out in
+    let outcome = sym (append-nil out) ∙ ap (λ l. out ++ text l) (sym (drop_all _ bytes c.loop-b-test.false)) ∙ c.loop-b.invariant in
+    write_text_promise bytes _ (λ i. (c.type_inv.bytes i).fits) outcome some few

@@ -1,7 +1,7 @@
 use Rattle.std.proofs.Common.{vec_items}
 use Rattle.std.proofs.lemmas.Result.{err_from_is_err_and}
 use Rattle.links.specs.Checks.{unfit}
-use Rattle.links.specs.Meanings.{passes, refused_unfit, refused_fit}
+use Rattle.links.specs.Meanings.{passes, fit_length, refused_unfit, refused_fit}
 use Rattle.links.specs.Thin.{same}
 use Rattle.outside_link.specs.Echo.{waiting}
 use Rattle.outside_link.proofs.Echoes.{joins}
@@ -12,20 +12,20 @@ returns-in_err-check_frame c =
     let p = err_from_is_err_and c.from_residual.result c.from_residual.ensures.1 in
     rw (p.1, p.2) (refused_unfit 8 c.args.frame.now (waiting c.args.self.now) _ c.in_err-check_frame.ensures)
 
-pub returns-then-turn-ge2 : goal.returns-then-turn-ge2
-returns-then-turn-ge2 c =
+pub returns-then-third : goal.returns-then-third
+returns-then-third c =
     let w = waiting c.args.self.now in
-    let fit = passes (unfit 8 c.args.frame.now) _ _ c.in_ok-check_frame.ensures in
-    refused_fit 8 c.args.frame.now w w c.in_link.result fit c.in_link.ensures (same w)
+    refused_fit 8 c.args.frame.now w w _ (passes (unfit 8 c.args.frame.now) _ _ c.in_ok-check_frame.ensures) c.into.ensures (same w)
 
 pub returns-then-len-eq4 : goal.returns-then-len-eq4
 returns-then-len-eq4 c =
     let w = waiting c.args.self.now in
-    let fit = passes (unfit 8 c.args.frame.now) _ _ c.in_ok-check_frame.ensures in
-    refused_fit 8 c.args.frame.now w w _ fit c.in_link-then-len-eq4.ensures (same w)
+    refused_fit 8 c.args.frame.now w w _ (passes (unfit 8 c.args.frame.now) _ _ c.in_ok-check_frame.ensures) c.into-then-len-eq4.ensures (same w)
 
 pub returns : goal.returns
-returns c = record {
-  fit = passes (unfit 8 c.args.frame.now) _ _ c.in_ok-check_frame.ensures;
-  waits = joins (vec_items c.args.self.now.letters) _ c.of.result c.args.frame.now c.push_reserved.ensures.items c.of.ensures;
-}
+returns c =
+    let fit = passes (unfit 8 c.args.frame.now) _ _ c.in_ok-check_frame.ensures in
+    record {
+      fit = fit;
+      waits = joins (vec_items c.args.self.now.letters) _ c.empty-letter.result _ c.args.frame.now c.push_reserved.ensures.items c.empty-letter.ensures c.append.ensures (fit_length 8 c.args.frame.now fit).1;
+    }

@@ -1,17 +1,18 @@
-use Rattle.std.proofs.Common.{◌<◌, ◌∷◌, length, vec_items, ap, ◌∙◌, arith, rules}
+use Rattle.std.proofs.Common.{◌∷◌, ◌++◌, length, map, drop, vec_items, ap, ◌∙◌, arith, rules}
+use Rattle.std.specs.List.{slice_get}
 use Rattle.links.specs.Checks.{short}
 use Rattle.links.specs.Thinned.{Thinned}
 use Rattle.links.specs.Meanings.{passes, handed_out}
 use Rattle.links.specs.Thin.{same}
+use Rattle.text.specs.Octets.{held}
+use Rattle.text.proofs.Filling.{held_length}
 use Rattle.outside_link.specs.Echo.{waiting}
-use Rattle.outside_link.specs.Letters.{content, contents}
-use Rattle.outside_link.specs.Framed.{long}
-use Rattle.outside_link.proofs.Echoes.{stays, goes}
+use Rattle.outside_link.proofs.Echoes.{is_some, stays, goes}
 use Rattle.outside_link.proofs.echo.link.EchoLink.take.Goals as goal
 use Rattle.outside_link.proofs.echo.link.EchoLink.take.Goals.{then-self, else-self}
 
-pub returns-then-is_empty : goal.returns-then-is_empty
-returns-then-is_empty c = record {
+pub returns-in_default : goal.returns-in_default
+returns-in_default c = record {
   long = passes (short c.args.out.now) _ _ c.in_ok-check_taking.ensures;
   untouched = search rules;
   waits = same (waiting c.args.self.now);
@@ -20,13 +21,16 @@ returns-then-is_empty c = record {
 pub returns : goal.returns
 returns c =
     let ls = vec_items c.args.self.now.letters in
-    let l = c.index.result.now in
-    let some : 0 < length ls = search rules in
-    let left : Thinned (contents ls) (content l ∷ contents (vec_items c.if-self.self.1.0)) =
+    let l = c.in-Some.field-0.now in
+    let first = c.in-Some.ensures.value ∙ ap (λ xs. slice_get xs 0) c.deref.ensures.value in
+    let left : Thinned (map held ls) (held l ∷ map held (vec_items c.if-self.self.1.0)) =
     elim c.if-self.branch [
-      | then-self w ↦ goes ls _ l c.index.ensures some (ap (λ s. vec_items s.1.0) w.self-is ∙ w.remove.ensures.by_index.2)
-      | else-self w ↦ stays ls _ l c.index.ensures some (ap (λ s. vec_items s.1.0) w.self-is)
+      | then-self w ↦ goes l ls _ first (ap (λ s. vec_items s.1.0) w.self-is ∙ w.remove.ensures.by_index.2)
+      | else-self w ↦ stays l ls _ first (ap (λ s. vec_items s.1.0) w.self-is)
     ] in
-    handed_out 8 c.args.out.now c.copy_to-n.new.out (content l) (contents ls) _ c.copy_to-n.result
-    (passes (short c.args.out.now) _ _ c.in_ok-check_taking.ensures)
-    (omega (arith, long l, l.some)) (omega (arith, long l, l.fits)) c.copy_to-n.ensures.long c.copy_to-n.ensures.out left
+    let out = c.args.out.now in
+    let n = length c.as_slice-frame.result.now in
+    let count = ap length c.as_slice-frame.ensures in
+    handed_out 8 out _ (held l) (map held ls) _ _
+    (passes (short out) _ _ c.in_ok-check_taking.ensures)
+    (is_some l ls first c.args.self.now.some) (omega (arith, held_length l, l.fits)) count (ap (λ x. x ++ drop n out) (c.copy_from_slice.ensures.after ∙ c.as_slice-frame.ensures)) left
