@@ -25,6 +25,10 @@ use Rattle.frames.specs.Write.{bit, header_octets, declined, framed, pdu_of, wri
 use Rattle.text.proofs.Checks.{passed, came}
 use Rattle.frames.proofs.Regroup.{joined_small, joined_parts, parts_fit, parts_joined}
 
+-- a check of two numbers that passed: they are one
+equal : {X : Type 0} (a b : ℕ) (f : Fault) (r : Result X Fault) (x : X) → unless (not (eqb a b)) f r ≡ Ok x → (a ≡ b) × (r ≡ Ok x)
+equal a b f r x e = let p = passed (not (eqb a b)) f r x e in (eqb-true a b (not-false (eqb a b) p.0), p.1)
+
 -- what is found under a number bears it
 borne : (n : ℕ) (o : Option ℕ) → is n o ≡ true → o ≡ Some n
 borne n None e = let z : ◌≡◌ {A = ℕ} 0 1 = cc in absurd (omega arith)
@@ -51,13 +55,13 @@ record Accepted (hd : List ℕ) (h : Header) : Type 0 where
 accepted : (hd : List ℕ) (o : Option Kind) (h : Header) → kind_of (get_or hd 0 0) ≡ o → of_kind o hd ≡ Ok h → Accepted hd h
 accepted hd None h k e = let z : ◌≡◌ {A = ℕ} 0 1 = cc in absurd (omega arith)
 accepted hd (Some kd) h k e =
-    let zeros = passed (not (eqb (get_or hd 1 0) 0)) (in_frame 12 0) _ h e in
+    let zeros = equal (get_or hd 1 0) 0 (in_frame 12 0) _ h e in
     let bars = passed (bars_bit kd (eqb (get_or hd 2 0) 1)) (in_frame 12 0) _ h zeros.1 in
     let call = passed (no_call (get_or hd 3 0)) (in_frame 13 1) _ h bars.1 in
     let same : record { kind = kd; exchange = eqb (get_or hd 2 0) 1; call = record { 0 = get_or hd 3 0 }; bits = get_or hd 4 0 } ≡ h = cc in
     subst (Accepted hd) same (record {
       numbered = let b = found (λ k. Some (kind_number k)) kinds (get_or hd 0 0) kd k in cc;
-      zeros = eqb-true (get_or hd 1 0) 0 (not-false (eqb (get_or hd 1 0) 0) zeros.0);
+      zeros = zeros.0;
       exchange = refl;
       call = refl;
       bits = refl;
@@ -96,19 +100,16 @@ record Sized (n : ℕ) (bs : List ℕ) : Type 0 where
 
 sized : (n : ℕ) (bs : List ℕ) → checks_length n bs ≡ Ok tt → Sized n bs
 sized n bs e =
-    let long = passed (not (eqb (length bs) (4 + pdu_octets n))) (in_frame 14 3) _ tt e in
-    let zeros = passed (not (eqb (get_or bs (length bs - 1) 0 % 2 ^ filling n) 0)) (in_frame 14 3) _ tt long.1 in
-    record {
-      long = eqb-true (length bs) (4 + pdu_octets n) (not-false (eqb (length bs) (4 + pdu_octets n)) long.0);
-      zeros = eqb-true (get_or bs (length bs - 1) 0 % 2 ^ filling n) 0 (not-false (eqb (get_or bs (length bs - 1) 0 % 2 ^ filling n) 0) zeros.0);
-    }
+    let long = equal (length bs) (4 + pdu_octets n) (in_frame 14 3) _ tt e in
+    let zeros = equal (get_or bs (length bs - 1) 0 % 2 ^ filling n) 0 (in_frame 14 3) _ tt long.1 in
+    record { long = long.0; zeros = zeros.0 }
 
 -- the PDU was there and of this service
 of_service : (n : ℕ) (bs p : List ℕ) → reads_pdu n bs ≡ Ok p → (get_or (pdu bs) 0 0 ≡ ss_type) × (p ≡ pdu bs)
 of_service n bs p e =
     let there = passed (ltb n 11) (in_frame 15 4) _ p e in
-    let type = passed (not (eqb (get_or (pdu bs) 0 0) ss_type)) (in_frame 15 4) _ p there.1 in
-    (eqb-true (get_or (pdu bs) 0 0) ss_type (not-false (eqb (get_or (pdu bs) 0 0) ss_type) type.0), cc)
+    let type = equal (get_or (pdu bs) 0 0) ss_type (in_frame 15 4) _ p there.1 in
+    (type.0, cc)
 
 -- two bytes after a header of four
 two : (b0 b1 b2 b3 : ℕ) (more : List ℕ) → length (b0 ∷ b1 ∷ b2 ∷ b3 ∷ more) ≡ 6 → more ≡ get_or more 0 0 ∷ get_or more 1 0 ∷ []
@@ -145,8 +146,8 @@ module _ (b0 b1 b2 b3 : ℕ) (more : List ℕ) (small : Bytes (b0 ∷ b1 ∷ b2 
   requested_same n None b sz ss t e = let z : ◌≡◌ {A = ℕ} 0 1 = cc in absurd (omega arith)
   requested_same n (Some o) b sz ss t e =
       let bs = b0 ∷ b1 ∷ b2 ∷ b3 ∷ more in
-      let count = passed (not (eqb n 11)) (in_frame 17 3) _ b e in
-      let eleven = eqb-true n 11 (not-false (eqb n 11) count.0) in
+      let count = equal n 11 (in_frame 17 3) _ b e in
+      let eleven = count.0 in
       let tail = in_two n 11 eleven refl sz in
       let same : Request o ≡ b = cc in
       let type : request_type o ≡ get_or (pdu bs) 1 0 = let f = found (λ k. Some (request_type k)) operations (get_or (pdu bs) 1 0) o t in cc in
@@ -221,16 +222,16 @@ module _ (b0 b1 b2 b3 : ℕ) (more : List ℕ) (small : Bytes (b0 ∷ b1 ∷ b2 
       let service = of_service n bs p.0 p.1 in
       answered_same n _ b sz service.0 refl (subst (λ q. answered n q (answer_of (get_or q 1 0)) ≡ Ok b) service.1 p.2)
   body_same clear_request n b sz e =
-      let p = passed (not (eqb n 0)) (in_frame 17 3) _ b e in
+      let p = equal n 0 (in_frame 17 3) _ b e in
       let same : ClearRequest ≡ b = cc in
-      subst (Same clear_request n more) same (record { of_kind = refl; written = bare_same n sz (eqb-true n 0 (not-false (eqb n 0) p.0)) })
+      subst (Same clear_request n more) same (record { of_kind = refl; written = bare_same n sz p.0 })
   body_same clear_answer n b sz e =
-      let p = passed (not (eqb n 0)) (in_frame 17 3) _ b e in
+      let p = equal n 0 (in_frame 17 3) _ b e in
       let same : ClearAnswer ≡ b = cc in
-      subst (Same clear_answer n more) same (record { of_kind = refl; written = bare_same n sz (eqb-true n 0 (not-false (eqb n 0) p.0)) })
+      subst (Same clear_answer n more) same (record { of_kind = refl; written = bare_same n sz p.0 })
   body_same notice n b sz e =
-      let p = passed (not (eqb n 8)) (in_frame 17 3) _ b e in
-      notice_same n _ b sz (eqb-true n 8 (not-false (eqb n 8) p.0)) refl p.1
+      let p = equal n 8 (in_frame 17 3) _ b e in
+      notice_same n _ b sz p.0 refl p.1
 
   long_exact : (f : Frame) → reads (b0 ∷ b1 ∷ b2 ∷ b3 ∷ more) ≡ Ok f → writes f ≡ Ok (b0 ∷ b1 ∷ b2 ∷ b3 ∷ more)
   long_exact f e =

@@ -1,6 +1,6 @@
 pub mod Exact
 pub mod Loops
+pub mod Packing
 pub mod Promises
 pub mod Regroup
-pub mod Widths
 pub mod Written

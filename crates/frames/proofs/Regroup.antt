@@ -1,5 +1,5 @@
 -- The bits of fields regrouped: fields of any widths joined into a number come out of it again, and so does the number. Assumes nothing.
-use Rattle.std.proofs.Common.{◌≡◌, ℕ, ◌+◌, ◌*◌, ◌/◌, ◌%◌, ◌^◌, ◌<◌, List, [], ◌∷◌, sym, refl, ap, ◌∙◌, subst, mul_assoc, add-mul, arith, pow_pos, pow-add, shr_lt}
+use Rattle.std.proofs.Common.{◌≡◌, ℕ, ◌+◌, ◌*◌, ◌/◌, ◌%◌, ◌^◌, ◌<◌, List, [], ◌∷◌, ◌++◌, sym, refl, ap, ◌∙◌, subst, mul_assoc, add-mul, arith, pow_pos, pow-add, shr_lt}
 use Rattle.std.proofs.Math.Pow.{split, high, low}
 use Rattle.std.proofs.Math.Arith.{digits_lt}
 use Rattle.std.proofs.lemmas.Nat.{mod_below}
@@ -31,6 +31,11 @@ onto n (f ∷ fs) =
 
 first : (f : Field) (fs : List Field) → joined (f ∷ fs) ≡ f.value * 2 ^ total fs + joined fs
 first f fs = onto (0 * 2 ^ f.width + f.value) fs ∙ ap (λ m. m * 2 ^ total fs + joined fs) (omega arith)
+
+-- one field more
+pub joined_push : (n : ℕ) (fs : List Field) (f : Field) → joined_onto n (fs ++ f ∷ []) ≡ joined_onto n fs * 2 ^ f.width + f.value
+joined_push n [] f = refl
+joined_push n (g ∷ fs) f = joined_push (n * 2 ^ g.width + g.value) fs f
 
 pub joined_small : (fs : List Field) → Fit fs → joined fs < 2 ^ total fs
 joined_small [] fit = omega arith

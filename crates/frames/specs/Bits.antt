@@ -43,7 +43,3 @@ parts (w ∷ ws) n = n / 2 ^ sum ws ∷ parts ws (n % 2 ^ sum ws)
 abbrev pub octets : List ℕ → List Field
 octets [] = []
 octets (b ∷ bs) = field 8 b ∷ octets bs
-
--- the two bytes that 16 bits make
-abbrev pub two_octets : List Field → List ℕ
-two_octets fs = parts (8 ∷ 8 ∷ []) (joined fs)

@@ -1,7 +1,10 @@
 -- Kinds, PDU types, causes and news by their numbers, and back. Assumes nothing.
-use Rattle.std.specs.Prelude.{ℕ, Bool, false, cond, List, [], ◌∷◌, Some, None, Option, ◌==◌}
+use Rattle.std.specs.Prelude.{ℕ, Bool, false, List, [], ◌∷◌, Some, None, Option, ◌==◌}
+use Rattle.std.specs.List.{find}
 use Rattle.frames.specs.declared.codes.Kind.{Kind}
 use Rattle.frames.specs.declared.codes.Kind.TheVariants.{Request as request, Answer as answer, ClearRequest as clear_request, ClearAnswer as clear_answer, Notice as notice}
+use Rattle.frames.specs.declared.codes.PduType.{PduType}
+use Rattle.frames.specs.declared.codes.PduType.TheVariants.{Request as request_for, Answer as answer_to}
 use Rattle.frames.specs.declared.content.Body.{Body}
 use Rattle.frames.specs.declared.content.Body.TheVariants.{Request, Answer, ClearRequest, ClearAnswer, Notice}
 use Rattle.frames.specs.declared.content.Cause.{Cause}
@@ -17,8 +20,7 @@ is n (Some m) = n == m
 
 -- the first of some values that bears a number
 abbrev pub bearing : {X : Type 0} → (X → Option ℕ) → List X → ℕ → Option X
-bearing number [] n = None
-bearing number (x ∷ xs) n = cond (is n (number x)) (Some x) (bearing number xs n)
+bearing number xs n = find (λ x. is n (number x)) xs
 
 abbrev pub kind : Body → Kind
 kind (Request o) = request
@@ -61,6 +63,17 @@ answer_type Retrieve = 7
 
 abbrev pub answer_of : ℕ → Option Operation
 answer_of = bearing (λ o. Some (answer_type o)) operations
+
+-- the number of a PDU type, and the type under a number
+abbrev pub pdu_type : PduType → ℕ
+pdu_type (request_for o) = request_type o
+pdu_type (answer_to o) = answer_type o
+
+abbrev pub pdu_types : List PduType
+pdu_types = request_for Hold ∷ answer_to Hold ∷ request_for Retrieve ∷ answer_to Retrieve ∷ []
+
+abbrev pub pdu_type_of : ℕ → Option PduType
+pdu_type_of = bearing (λ t. Some (pdu_type t)) pdu_types
 
 -- the causes that each operation lists
 abbrev pub cause_number : Operation → Cause → Option ℕ

@@ -5,4 +5,5 @@ pub mod Laws
 pub mod Layout
 pub mod Line
 pub mod Read
+pub mod Refusal
 pub mod Write

@@ -1,17 +1,19 @@
 -- What the writer answers. Assumes nothing.
-use Rattle.std.specs.Prelude.{ℕ, ◌≤◌, Bool, true, false, List, [], ◌∷◌, ◌++◌, length, replicate, Some, None, Ok, Err, Option, Result}
+use Rattle.std.specs.Prelude.{ℕ, Bool, true, false, List, [], ◌∷◌, ◌++◌, replicate, Some, None, Ok, Err, Option, Result}
 use Rattle.frames.specs.declared.bits.Field.{Field}
 use Rattle.frames.specs.declared.content.Body.{Body}
 use Rattle.frames.specs.declared.content.Body.TheVariants.{Request, Answer, ClearRequest, ClearAnswer, Notice}
 use Rattle.frames.specs.declared.content.Frame.{Frame}
 use Rattle.frames.specs.declared.content.Operation.{Operation}
 use Rattle.frames.specs.declared.content.Verdict.TheVariants.{Granted, Declined}
+use Rattle.frames.specs.declared.refusal.Refusal.{Refusal}
 use Rattle.text.specs.declared.fault.Fault.{Fault}
-use Rattle.frames.specs.declared.writer.Pdu.{Pdu}
+use Rattle.frames.specs.declared.writer.pdu.Pdu.{Pdu}
 use Rattle.frames.specs.Bits.{field, total, joined, parts}
 use Rattle.frames.specs.Codes.{kind, kind_number, ss_type, request_type, answer_type, cause_number, news_number}
 use Rattle.text.specs.Fault.{in_frame, unless}
 use Rattle.frames.specs.Layout.{pdu_octets, filling, no_call, bars_bit}
+use Rattle.frames.specs.Refusal.{told}
 use Rattle.text.specs.Octets.{held}
 
 abbrev pub bit : Bool → ℕ
@@ -65,11 +67,6 @@ writes f =
     (framed f (writes_pdu f.body)))
 
 -- an answer by the number and bytes that it holds
-abbrev pub told_pdu : Result Pdu Fault → Result (ℕ × List ℕ) Fault
+abbrev pub told_pdu : Result Pdu Refusal → Result (ℕ × List ℕ) Fault
 told_pdu (Ok p) = Ok (p.bits, held p.octets)
-told_pdu (Err f) = Err f
-
--- no PDU has more than 15 bits, in two bytes
-pub record Short (p : Pdu) : Type 0 where
-  pub bits : p.bits ≤ 15
-  pub octets : length (held p.octets) ≤ 2
+told_pdu (Err r) = Err (told r)

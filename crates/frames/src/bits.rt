@@ -14,16 +14,14 @@ impl Field {
     {
         Field { width, value }
     }
+}
 
-    // The eight bits of a byte.
-    pub(crate) fn octet(byte: u8) -> Field
-        ensures { result ≡ field 8 byte }
-    {
-        Field {
-            width: 8,
-            value: u16::from(byte),
-        }
-    }
+// How many bits the fields have together.
+pub(crate) fn total(fields: &[Field]) -> u32
+    requires { total fields.now ≤ 32 }
+    ensures { result ≡ total fields.now }
+{
+    fields.iter().map(|f| f.width).sum()
 }
 
 // The number whose bits are those of the fields.
@@ -33,29 +31,27 @@ pub(crate) fn join(fields: &[Field]) -> u64
     ensures value { result ≡ joined fields.now }
     ensures small { result < 2 ^ total fields.now }
 {
-    let mut number = 0u64;
+    // A loop, since the closure of a `fold` would have to know of every field that its width can be shifted by.
+    let mut number = 0;
     for f in fields {
-        number = number * (1 << f.width) + u64::from(f.value);
+        number = (number << f.width) + u64::from(f.value);
     }
     number
 }
 
 // The fields of these widths that the bits of a number are.
 pub(crate) fn split<const N: usize>(widths: &[u32; N], number: u64) -> [u16; N]
-    requires long { length widths.now ≡ N }
     requires narrow { Narrow widths.now }
     requires short { sum widths.now ≤ 32 }
     requires small { number < 2 ^ sum widths.now }
     ensures { result ≡ parts widths.now number }
 {
-    let mut left: u32 = 0;
-    for w in widths {
-        left += *w;
-    }
+    let mut left: u32 = widths.iter().sum();
     let mut rest = number;
     let mut out = [0u16; N];
-    for i in 0..N {
-        left -= widths[i];
+    // By index: of places lent by an adapter of `iter_mut`, as `zip`, a proof knows no more than how many there are.
+    for (i, width) in widths.iter().enumerate() {
+        left -= *width;
         out[i] = (rest >> left) as u16;
         rest %= 1 << left;
     }

@@ -1,10 +1,13 @@
-// Kinds, operations, causes and news by their numbers, and back.
+// Kinds, PDU types, causes and news by their numbers, and back. Each is looked up among all of its type by a chain of its own: one over
+// the types would want a trait that says again what `From` says.
 ghost use Rattle.std.specs.Prelude.{◌≡◌, ◌<◌, IfSome};
-ghost use Rattle.frames.specs.Codes.{kind, kind_number, kind_of, request_type, request_of, answer_type, answer_of, cause_number, cause_of, news_number, news_of};
-ghost use Rattle.frames.specs.declared.content.Operation.TheVariants.{Hold, Retrieve};
+ghost use Rattle.std.specs.Option.{ok_or};
+ghost use Rattle.frames.specs.Codes.{kind, kind_number, kind_of, pdu_type, pdu_type_of, cause_number, cause_of, news_number, news_of};
+ghost use Rattle.frames.specs.declared.refusal.Refusal.TheVariants.{Header as header, PduType as no_type, Content as content};
 
 use crate::content::{Body, Cause, News, Operation};
 use crate::numbers::NUMBERS;
+use crate::refusal::Refusal;
 
 // The kind of a frame, the first field of its header.
 #[derive(Clone, Copy, Debug, PartialEq, Eq)]
@@ -17,9 +20,19 @@ pub enum Kind {
 }
 
 impl Kind {
-    pub(crate) fn of_body(body: Body) -> Kind
-        ensures { result ≡ kind body }
-    {
+    const ALL: [Kind; 5] = [
+        Kind::Request,
+        Kind::Answer,
+        Kind::ClearRequest,
+        Kind::ClearAnswer,
+        Kind::Notice,
+    ];
+}
+
+impl From<Body> for Kind {
+    ghost from_gives = { λ b k. k ≡ kind b };
+
+    fn from(body: Body) -> Kind {
         match body {
             Body::Request(_) => Kind::Request,
             Body::Answer(_, _) => Kind::Answer,
@@ -28,12 +41,13 @@ impl Kind {
             Body::Notice(_) => Kind::Notice,
         }
     }
+}
 
-    pub(crate) fn number(self) -> u16
-        ensures value { result ≡ kind_number self }
-        ensures small { result < 16 }
-    {
-        match self {
+impl From<Kind> for u16 {
+    ghost from_gives = { λ k n. n ≡ kind_number k };
+
+    fn from(kind: Kind) -> u16 {
+        match kind {
             Kind::Request => 1,
             Kind::Answer => 2,
             Kind::ClearRequest => 3,
@@ -41,64 +55,62 @@ impl Kind {
             Kind::Notice => 5,
         }
     }
+}
 
-    pub(crate) fn with_number(number: u16) -> Option<Kind>
-        ensures { result ≡ kind_of number }
-    {
-        match number {
-            1 => Some(Kind::Request),
-            2 => Some(Kind::Answer),
-            3 => Some(Kind::ClearRequest),
-            4 => Some(Kind::ClearAnswer),
-            5 => Some(Kind::Notice),
-            _ => None,
+impl TryFrom<u16> for Kind {
+    type Error = Refusal;
+
+    ghost try_from_gives = { λ n r. r ≡ ok_or (kind_of n) header };
+
+    fn try_from(number: u16) -> Result<Kind, Refusal> {
+        Kind::ALL
+            .iter()
+            .copied()
+            .find(|kind| u16::from(*kind) == number)
+            .ok_or(Refusal::Header)
+    }
+}
+
+// The type of a PDU of the service: it asks for an operation, or answers it.
+#[derive(Clone, Copy, Debug, PartialEq, Eq)]
+pub enum PduType {
+    Request(Operation),
+    Answer(Operation),
+}
+
+impl PduType {
+    const ALL: [PduType; 4] = [
+        PduType::Request(Operation::Hold),
+        PduType::Answer(Operation::Hold),
+        PduType::Request(Operation::Retrieve),
+        PduType::Answer(Operation::Retrieve),
+    ];
+}
+
+impl From<PduType> for u16 {
+    ghost from_gives = { λ t n. n ≡ pdu_type t };
+
+    fn from(pdu_type: PduType) -> u16 {
+        match pdu_type {
+            PduType::Request(Operation::Hold) => NUMBERS.invoke,
+            PduType::Answer(Operation::Hold) => NUMBERS.invoke_ack,
+            PduType::Request(Operation::Retrieve) => NUMBERS.retrieve,
+            PduType::Answer(Operation::Retrieve) => NUMBERS.retrieve_ack,
         }
     }
 }
 
-// The PDU type that asks for an operation.
-pub(crate) fn request_type(operation: Operation) -> u16
-    ensures value { result ≡ request_type operation }
-    ensures small { result < 32 }
-{
-    match operation {
-        Operation::Hold => NUMBERS.invoke,
-        Operation::Retrieve => NUMBERS.retrieve,
-    }
-}
+impl TryFrom<u16> for PduType {
+    type Error = Refusal;
 
-pub(crate) fn request_with_type(number: u16) -> Option<Operation>
-    ensures { result ≡ request_of number }
-{
-    if number == NUMBERS.invoke {
-        Some(Operation::Hold)
-    } else if number == NUMBERS.retrieve {
-        Some(Operation::Retrieve)
-    } else {
-        None
-    }
-}
+    ghost try_from_gives = { λ n r. r ≡ ok_or (pdu_type_of n) no_type };
 
-// The PDU type that answers an operation.
-pub(crate) fn answer_type(operation: Operation) -> u16
-    ensures value { result ≡ answer_type operation }
-    ensures small { result < 32 }
-{
-    match operation {
-        Operation::Hold => NUMBERS.invoke_ack,
-        Operation::Retrieve => NUMBERS.retrieve_ack,
-    }
-}
-
-pub(crate) fn answer_with_type(number: u16) -> Option<Operation>
-    ensures { result ≡ answer_of number }
-{
-    if number == NUMBERS.invoke_ack {
-        Some(Operation::Hold)
-    } else if number == NUMBERS.retrieve_ack {
-        Some(Operation::Retrieve)
-    } else {
-        None
+    fn try_from(number: u16) -> Result<PduType, Refusal> {
+        PduType::ALL
+            .iter()
+            .copied()
+            .find(|pdu_type| u16::from(*pdu_type) == number)
+            .ok_or(Refusal::PduType)
     }
 }
 
@@ -119,66 +131,38 @@ pub fn cause_number(operation: Operation, cause: Cause) -> Option<u16>
     }
 }
 
-fn invoke_cause(number: u16) -> Option<Cause>
-    ensures { result ≡ cause_of Hold number }
-{
-    let causes = NUMBERS.invoke_causes;
-    if number == causes.not_subscribed {
-        Some(Cause::NotSubscribed)
-    } else if number == causes.limit_reached {
-        Some(Cause::LimitReached)
-    } else if number == causes.call_not_there {
-        Some(Cause::CallNotThere)
-    } else if number == causes.already_on_hold {
-        Some(Cause::AlreadyOnHold)
-    } else {
-        None
-    }
-}
-
-fn retrieve_cause(number: u16) -> Option<Cause>
-    ensures { result ≡ cause_of Retrieve number }
-{
-    let causes = NUMBERS.retrieve_causes;
-    if number == causes.call_not_there {
-        Some(Cause::CallNotThere)
-    } else if number == causes.not_on_hold {
-        Some(Cause::NotOnHold)
-    } else if number == causes.no_channel {
-        Some(Cause::NoChannel)
-    } else {
-        None
-    }
-}
-
 // The cause that an operation lists under a number.
 pub(crate) fn cause_with_number(operation: Operation, number: u16) -> Option<Cause>
     ensures { result ≡ cause_of operation number }
 {
-    match operation {
-        Operation::Hold => invoke_cause(number),
-        Operation::Retrieve => retrieve_cause(number),
+    Cause::ALL
+        .iter()
+        .copied()
+        .find(|cause| cause_number(operation, *cause) == Some(number))
+}
+
+impl From<News> for u16 {
+    ghost from_gives = { λ w n. (n ≡ news_number w) × (n < 256) };
+
+    fn from(news: News) -> u16 {
+        match news {
+            News::PutOnHold => 1,
+            News::Retrieved => 2,
+            News::Released => 3,
+        }
     }
 }
 
-pub fn news_number(news: News) -> u16
-    ensures value { result ≡ news_number news }
-    ensures small { result < 256 }
-{
-    match news {
-        News::PutOnHold => 1,
-        News::Retrieved => 2,
-        News::Released => 3,
-    }
-}
+impl TryFrom<u16> for News {
+    type Error = Refusal;
 
-pub(crate) fn news_with_number(number: u16) -> Option<News>
-    ensures { result ≡ news_of number }
-{
-    match number {
-        1 => Some(News::PutOnHold),
-        2 => Some(News::Retrieved),
-        3 => Some(News::Released),
-        _ => None,
+    ghost try_from_gives = { λ n r. r ≡ ok_or (news_of n) content };
+
+    fn try_from(number: u16) -> Result<News, Refusal> {
+        News::ALL
+            .iter()
+            .copied()
+            .find(|news| u16::from(*news) == number)
+            .ok_or(Refusal::Content)
     }
 }

@@ -1,8 +1,19 @@
 // What a frame says.
+ghost use Rattle.std.specs.Prelude.{◌≡◌, not};
+ghost use Rattle.frames.specs.Layout.{no_call};
 
 // The call a frame is about. Frames have 1 to 16,383; content may hold any number, and the writer refuses the others.
-#[derive(Clone, Copy, Debug, PartialEq, Eq)]
+#[derive(Clone, Copy, Debug, PartialEq, Eq, PartialOrd, Ord)]
 pub struct CallId(pub u16);
+
+impl CallId {
+    // Whether a frame can be about the call: 1 to 16,383.
+    pub fn is_in_range(self) -> bool
+        ensures { result ≡ not (no_call self.0) }
+    {
+        (1..=16_383).contains(&self.0)
+    }
+}
 
 // What a user may ask of the service for a call: to put it on hold (INVOKE), or to have it back (RETRIEVE).
 #[derive(Clone, Copy, Debug, PartialEq, Eq)]
@@ -22,6 +33,17 @@ pub enum Cause {
     NoChannel,
 }
 
+impl Cause {
+    pub(crate) const ALL: [Cause; 6] = [
+        Cause::NotSubscribed,
+        Cause::LimitReached,
+        Cause::CallNotThere,
+        Cause::AlreadyOnHold,
+        Cause::NotOnHold,
+        Cause::NoChannel,
+    ];
+}
+
 #[derive(Clone, Copy, Debug, PartialEq, Eq)]
 pub enum Verdict {
     Granted,
@@ -29,11 +51,15 @@ pub enum Verdict {
 }
 
 // What the other party, or the network, did to the call.
-#[derive(Clone, Copy, Debug, PartialEq, Eq)]
+#[derive(Clone, Copy, Debug, PartialEq, Eq, PartialOrd, Ord)]
 pub enum News {
     PutOnHold,
     Retrieved,
     Released,
+}
+
+impl News {
+    pub(crate) const ALL: [News; 3] = [News::PutOnHold, News::Retrieved, News::Released];
 }
 
 #[derive(Clone, Copy, Debug, PartialEq, Eq)]

@@ -1,6 +1,6 @@
 // The layout of frames: which fields stand one after the other, how wide each is, and what they may hold.
 ghost use Rattle.std.specs.Prelude.{◌≡◌};
-ghost use Rattle.frames.specs.Layout.{no_call, bars_bit};
+ghost use Rattle.frames.specs.Layout.{bars_bit};
 
 use crate::codes::Kind;
 
@@ -10,19 +10,9 @@ pub(crate) const HEADER: [u32; 5] = [4, 3, 1, 16, 8];
 // SS-type, PDU type, result, cause; the last bit is always filling.
 pub(crate) const PDU: [u32; 5] = [6, 5, 1, 3, 1];
 
-// Call identifiers go from 1 to 16,383.
-pub(crate) fn no_call(call: u16) -> bool
-    ensures { result ≡ no_call call }
-{
-    call < 1 || call > 16_383
-}
-
 // A notice has exchange bit 0.
 pub(crate) fn bars_bit(kind: Kind, exchange: bool) -> bool
     ensures { result ≡ bars_bit kind exchange }
 {
-    match kind {
-        Kind::Notice => exchange,
-        _ => false,
-    }
+    kind == Kind::Notice && exchange
 }

@@ -10,10 +10,13 @@ mod layout;
 mod line;
 mod numbers;
 mod reader;
+mod refusal;
+mod words;
 mod writer;
 
-pub use codes::{cause_number, news_number};
+pub use codes::cause_number;
 pub use content::{Body, CallId, Cause, Frame, News, Operation, Verdict};
 pub use line::read_line;
 pub use reader::read;
+pub use refusal::Refusal;
 pub use writer::write;

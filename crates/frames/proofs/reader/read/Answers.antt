@@ -1,5 +1,6 @@
-use Rattle.frames.proofs.Promises.{read_promise}
+use Rattle.std.proofs.Common.{rules}
+use Rattle.frames.proofs.Promises.{of_read}
 use Rattle.frames.proofs.reader.read.Goals as goal
 
-pub returns : goal.returns
-returns c = record { outcome = c.decode.ensures; encoding = read_promise c.args.bytes.now (λ i. (c.type_inv.bytes i).fits) _ c.decode.ensures }
+pub returns-clause-encoding : goal.returns-clause-encoding
+returns-clause-encoding c = of_read c.args.bytes.now (λ i. (c.type_inv.bytes i).fits) _ (search rules)

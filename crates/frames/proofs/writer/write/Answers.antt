@@ -1,5 +1,6 @@
-use Rattle.frames.proofs.Promises.{write_promise}
+use Rattle.std.proofs.Common.{rules}
+use Rattle.frames.proofs.Promises.{encoding}
 use Rattle.frames.proofs.writer.write.Goals as goal
 
-pub returns : goal.returns
-returns c = record { outcome = c.encode.ensures; encoding = write_promise c.args.frame.now _ c.encode.ensures }
+pub returns-clause-encoding : goal.returns-clause-encoding
+returns-clause-encoding c = encoding c.args.frame.now _ (search rules)
