@@ -1,6 +1,5 @@
 pub mod Calls
 pub mod Lines
-pub mod Loops
 pub mod Packings
 pub mod Queues
 pub mod Rings

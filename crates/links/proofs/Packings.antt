@@ -3,15 +3,8 @@ use Rattle.std.specs.Prelude.{◌≡◌, ℕ, zero, suc, ◌<◌, ◌≤◌, tru
 use Rattle.std.proofs.Common.{sym, refl, ap, ◌∙◌, append_assoc, append-nil, arith}
 use Rattle.std.proofs.lemmas.List.{length-append}
 use Rattle.std.proofs.lemmas.Bool.{and_parts, and_from, lt-ltb, le-leb}
+use Rattle.links.specs.Lawful.{Lawful}
 use Rattle.links.specs.Packing.{Packing, Begins, pack, unpack_in, unpack, costs, sound, sound_frame, octets}
-
--- a packing that can be read back
-pub record Lawful (p : Packing) : Type 0 where
-  pub reads : (f rest : List ℕ) → sound_frame p f ≡ true → p.first (p.written f ++ rest) ≡ f
-  pub goes_on : (f rest : List ℕ) → sound_frame p f ≡ true → p.after (p.written f ++ rest) ≡ rest
-  pub some : (f : List ℕ) → 0 < length (p.written f)
-  pub cost_written : (f : List ℕ) → p.cost f ≡ length (p.written f)
-  pub high : p.longest ≤ 32
 
 pub all_octets : (f : List ℕ) → ((i : ℕ) → i < length f → slice_index f i < 256) → octets f ≡ true
 all_octets [] h = refl

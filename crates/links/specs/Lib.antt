@@ -1,12 +1,16 @@
 pub mod Checks
 pub mod Faulty
+pub mod Lawful
 pub mod Layer
 pub mod Line
+pub mod LineLaws
 pub mod Meaning
 pub mod Meanings
 pub mod Packing
 pub mod Queue
+pub mod Refusal
 pub mod Ring
+pub mod RingLaws
 pub mod SoundFrames
 pub mod Store
 pub mod Stores

@@ -56,3 +56,8 @@ module _ (p : Packing) where
   pub record Begins (bs : List ℕ) : Type 0 where
     pub whole : bs ≡ p.written (p.first bs) ++ p.after bs
     pub sound_first : sound_frame (p.first bs) ≡ true
+
+  -- frames stand packed in a queue
+  pub record Packed (q : ByteQueue) : Type 0 where
+    pub whole : pack (frames q) ≡ held q
+    pub framed : sound (frames q) ≡ true

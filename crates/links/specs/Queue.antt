@@ -27,3 +27,13 @@ room n = cond (unfit_memory n) 0 n
 pub record SameMemory (a b : ByteQueue) : Type 0 where
   pub size : b.size ≡ a.size
   pub long : vec_len b.memory ≡ vec_len a.memory
+
+-- bytes were put after those that waited
+pub record Joined (a b : ByteQueue) (bs : List ℕ) : Type 0 where
+  pub held : held b ≡ held a ++ bs
+  pub memory : SameMemory a b
+
+-- bytes were taken out, the first of those that waited
+pub record Left (a b : ByteQueue) (bs : List ℕ) : Type 0 where
+  pub held : held a ≡ bs ++ held b
+  pub memory : SameMemory a b

@@ -2,6 +2,7 @@
 ghost use Rattle.std.specs.Prelude.{◌≡◌};
 ghost use Rattle.links.specs.Checks.{frame_checked, taking_checked, memory_checked};
 
+use crate::refusal::Refusal;
 use text::Fault;
 
 // The least bytes that a link must be handed for taking, however short its frames.
@@ -11,8 +12,8 @@ const TAKING: usize = 32;
 pub fn check_frame(frame: &[u8], longest: usize) -> Result<(), Fault>
     ensures { result ≡ frame_checked longest frame.now }
 {
-    if frame.is_empty() || frame.len() > longest {
-        return Err(Fault::in_link(41));
+    if !(1..=longest).contains(&frame.len()) {
+        return Err(Refusal::FrameLength.into());
     }
     Ok(())
 }
@@ -22,7 +23,7 @@ pub fn check_taking(out: &[u8]) -> Result<(), Fault>
     ensures { result ≡ taking_checked out.now }
 {
     if out.len() < TAKING {
-        return Err(Fault::in_link(42));
+        return Err(Refusal::TakingLength.into());
     }
     Ok(())
 }
@@ -31,8 +32,8 @@ pub fn check_taking(out: &[u8]) -> Result<(), Fault>
 pub fn check_memory(bytes: usize) -> Result<(), Fault>
     ensures { result ≡ memory_checked bytes }
 {
-    if bytes < 64 || bytes > 4096 {
-        return Err(Fault::in_making(54));
+    if !(64..=4096).contains(&bytes) {
+        return Err(Refusal::MemoryLength.into());
     }
     Ok(())
 }

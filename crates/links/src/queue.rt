@@ -3,7 +3,8 @@ ghost use Rattle.std.specs.Prelude.{◌-◌, ◌≤◌, vec_len};
 
 mod ops;
 
-// `size` bytes of the memory count, `used` of them are taken, from `head` on.
+// The memory is the caller's, taken at the making and handed back at the end, so the queue is this crate's own and no `VecDeque`. It has no model: a refused call
+// leaves every byte of it as it was, those that do not wait too. `size` bytes of the memory count, `used` of them are taken, from `head` on.
 #[derive(Drop)]
 pub struct ByteQueue {
     memory: Vec<u8>,

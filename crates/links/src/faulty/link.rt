@@ -68,7 +68,7 @@ impl<L: Link> Link for Faulty<L> {
     fn send(&mut self, frame: &[u8]) -> Result<(), Fault> {
         checks::check_frame(frame, L::longest_frame())?;
         let k = self.count;
-        self.count = if k == 63 { 0 } else { k + 1 };
+        self.count = (k + 1) % 64;
         if (self.lost >> k) & 1 == 1 {
             return Ok(());
         }

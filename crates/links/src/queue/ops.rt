@@ -1,6 +1,6 @@
 // A queue of bytes: made, filled and emptied.
 ghost use Rattle.std.specs.Prelude.{◌≡◌, ◌+◌, ◌-◌, ◌<◌, ◌≤◌, [], ◌∷◌, ◌++◌, vec_len, ◌==◌};
-ghost use Rattle.links.specs.Queue.{held, place, room, SameMemory};
+ghost use Rattle.links.specs.Queue.{held, place, room, Joined, Left};
 
 use super::ByteQueue;
 use crate::checks;
@@ -13,13 +13,10 @@ impl ByteQueue {
         ensures kept { result.memory ≡ memory }
     {
         let bytes = memory.len();
-        let size = match checks::check_memory(bytes) {
-            Ok(()) => bytes,
-            Err(_) => 0,
-        };
+        let fit = checks::check_memory(bytes).is_ok();
         ByteQueue {
             memory,
-            size,
+            size: if fit { bytes } else { 0 },
             head: 0,
             used: 0,
         }
@@ -29,13 +26,7 @@ impl ByteQueue {
     pub(crate) fn into_memory(self) -> Vec<u8>
         ensures { result ≡ self.memory }
     {
-        let ByteQueue {
-            memory,
-            size: _,
-            head: _,
-            used: _,
-        } = self;
-        memory
+        self.memory
     }
 
     pub(crate) fn free(&self) -> usize
@@ -62,9 +53,7 @@ impl ByteQueue {
     // One byte more at the end, where there is room.
     pub(crate) fn push(&mut self, byte: u8)
         requires { self.old.used < self.old.size }
-        ensures held { held self.new ≡ held self.old ++ byte ∷ [] }
-        ensures used { self.new.used ≡ self.old.used + 1 }
-        ensures memory { SameMemory self.old self.new }
+        ensures { Joined self.old self.new (byte ∷ []) }
     {
         let at = self.place_after(self.used);
         self.memory[at] = byte;
@@ -74,9 +63,7 @@ impl ByteQueue {
     // The first byte, where there is one.
     pub(crate) fn pop(&mut self) -> u8
         requires { 0 < self.old.used }
-        ensures held { held self.old ≡ result ∷ held self.new }
-        ensures used { self.new.used + 1 ≡ self.old.used }
-        ensures memory { SameMemory self.old self.new }
+        ensures { Left self.old self.new (result ∷ []) }
     {
         let byte = self.memory[self.head];
         self.head = self.place_after(1);

@@ -17,6 +17,5 @@ returns c =
       held =
           popped (cells me) me.head me.used _ (omega (arith, long, me.start)) c.requires (omega (arith, long, me.fits)) sp
           ∙ ap (λ x. x ∷ round (cells me) c.place_after-self.result (me.used - 1)) byte;
-      used = search rules;
       memory = search rules;
     }

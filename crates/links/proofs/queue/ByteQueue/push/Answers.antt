@@ -13,6 +13,5 @@ returns c =
       held =
           ap (λ m. round m me.head (me.used + 1)) (take_set me.size (vec_items me.memory) c.place_after-at.result c.args.byte)
           ∙ pushed (cells me) me.head me.used _ c.args.byte (omega (arith, long, me.start)) (omega (arith, long, c.requires)) sp;
-      used = search rules;
       memory = search rules;
     }
