@@ -3,7 +3,7 @@ ghost use Rattle.std.specs.Prelude.{◌≡◌, true, false};
 ghost use Rattle.pool.specs.Pool.{bare, carried, fresh_claim, spent_claim};
 
 // What a leg has of the pool: a channel, or none while it is on hold.
-#[derive(Clone, Copy)]
+#[derive(Clone, Copy, Debug, PartialEq, Eq)]
 pub struct Bearer {
     pub channel: bool,
 }

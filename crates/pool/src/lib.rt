@@ -6,6 +6,7 @@
 mod claim;
 mod legs;
 mod pool;
+mod refusal;
 
 pub use claim::{Bearer, Claim};
 pub use legs::{carry_both, carry_one};

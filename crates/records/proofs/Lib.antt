@@ -1,3 +1,4 @@
+pub mod Asked
 mod Choice
 pub mod Tables
 mod Turns

@@ -1,29 +1,20 @@
 -- Laws of a list of records: the record at a call's place, and what a change, an added and a removed record leave of the order and of the sums. Assumes nothing.
-use Rattle.std.proofs.Common.{◌≡◌, ℕ, suc, ◌+◌, ◌<◌, ◌≤◌, Bool, true, false, cond, ◌&&◌, eqb, ltb, List, [], ◌∷◌, ◌++◌, length, get_or, set, Some, None, sym, refl, ap, ◌∙◌, subst, add-one, arith, ltb-true, lt-ltb, ne_eqb, eqb-true, le-leb, leb-true}
+use Rattle.std.proofs.Common.{◌≡◌, ℕ, suc, ◌+◌, ◌<◌, ◌≤◌, Bool, true, false, cond, ◌&&◌, eqb, ltb, List, [], ◌∷◌, ◌++◌, length, get_or, set, Some, None, sym, refl, ap, ◌∙◌, subst, add-one, arith, ltb-false, ltb-true, lt-ltb, ne_eqb, eqb-true, le-leb, leb-true}
+use Rattle.std.proofs.lemmas.Bool.{and_from, and_parts}
+use Rattle.std.proofs.lemmas.List.Recursion.{is_sum_by}
+use Rattle.std.proofs.lemmas.List.Sums.{sum_by_push}
 use Rattle.std.specs.List.{remove}
 use Rattle.records.specs.Changes.{find, change, without}
 use Rattle.records.specs.Legs.{one, standing, is_on_hold, channels}
-use Rattle.records.specs.Questions.{place, rising_from, held_by, channels_of}
+use Rattle.records.specs.Questions.{place, placed, rising_from, held_by, channels_of}
 use Rattle.records.specs.declared.legs.Record.{Record}
-
-and_left : (a b : Bool) → (a && b) ≡ true → a ≡ true
-and_left true b e = refl
-and_left false b e = e
-
-and_right : (a b : Bool) → (a && b) ≡ true → b ≡ true
-and_right true b e = e
-and_right false b e = let z : ◌≡◌ {A = ℕ} 0 1 = cc in absurd (omega arith)
-
-both : (a b : Bool) → a ≡ true → b ≡ true → (a && b) ≡ true
-both true b p q = q
-both false b p q = p
 
 -- of a list whose identifiers rise above n: the first is above n, and the rest rise above the first
 pub rise_first : (n last : ℕ) (r : Record) (rs : List Record) → rising_from n last (r ∷ rs) ≡ true → n < r.id.0
-rise_first n last r rs h = ltb-true n r.id.0 (and_left (ltb n r.id.0) (rising_from r.id.0 last rs) h)
+rise_first n last r rs h = ltb-true n r.id.0 ((and_parts (ltb n r.id.0) (rising_from r.id.0 last rs) h).0)
 
 pub rise_rest : (n last : ℕ) (r : Record) (rs : List Record) → rising_from n last (r ∷ rs) ≡ true → rising_from r.id.0 last rs ≡ true
-rise_rest n last r rs h = and_right (ltb n r.id.0) (rising_from r.id.0 last rs) h
+rise_rest n last r rs h = (and_parts (ltb n r.id.0) (rising_from r.id.0 last rs) h).1
 
 pub rise_top : (n last : ℕ) (rs : List Record) → rising_from n last rs ≡ true → n ≤ last
 rise_top n last [] h = leb-true n last h
@@ -66,6 +57,21 @@ find_none c (r ∷ rs) h = go (eqb r.id.0 c) h (find_none c rs)
     go : (b : Bool) → suc (length rs) ≤ cond b 0 (place c rs + 1) → (length rs ≤ place c rs → find c rs ≡ None) → cond b (Some r) (find c rs) ≡ None
     go true h ih = absurd (omega arith)
     go false h ih = ih (omega arith)
+
+-- the place that is answered for a call, and where none is
+pub placed_some : (c i : ℕ) (rs : List Record) → placed c rs ≡ Some i → (i ≡ place c rs) × (i < length rs)
+placed_some c i rs e = go (ltb (place c rs) (length rs)) refl e
+  where
+    go : (b : Bool) → ltb (place c rs) (length rs) ≡ b → cond b (Some (place c rs)) None ≡ Some i → (i ≡ place c rs) × (i < length rs)
+    go true t e = let q : place c rs ≡ i = cc in (sym q, omega (arith, ltb-true _ _ t))
+    go false t e = let z : ◌≡◌ {A = ℕ} 0 1 = cc in absurd (omega arith)
+
+pub placed_none : (c : ℕ) (rs : List Record) → placed c rs ≡ None → length rs ≤ place c rs
+placed_none c rs e = go (ltb (place c rs) (length rs)) refl e
+  where
+    go : (b : Bool) → ltb (place c rs) (length rs) ≡ b → cond b (Some (place c rs)) None ≡ None → length rs ≤ place c rs
+    go true t e = let z : ◌≡◌ {A = ℕ} 0 1 = cc in absurd (omega arith)
+    go false t e = ltb-false _ _ t
 
 -- the same, of a place and a record at hand
 pub found : (c i : ℕ) (rs : List Record) (r : Record) → i ≡ place c rs → i < length rs → r ≡ get_or rs i r → find c rs ≡ Some r
@@ -165,7 +171,7 @@ rising_change c f n last (r ∷ rs) same = go (eqb r.id.0 c) (rising_change c f 
 
 lower : (n m last : ℕ) (rs : List Record) → n < m → rising_from m last rs ≡ true → rising_from n last rs ≡ true
 lower n m last [] lt h = le-leb n last (omega (arith, leb-true m last h))
-lower n m last (r ∷ rs) lt h = both _ _ (lt-ltb n r.id.0 (omega (arith, lt, rise_first m last r rs h))) (rise_rest m last r rs h)
+lower n m last (r ∷ rs) lt h = and_from _ _ (lt-ltb n r.id.0 (omega (arith, lt, rise_first m last r rs h))) (rise_rest m last r rs h)
 
 pub rising_without : (c n last : ℕ) (rs : List Record) → rising_from n last rs ≡ true → rising_from n last (without c rs) ≡ true
 unfolding without
@@ -174,96 +180,73 @@ rising_without c n last (r ∷ rs) h = go (eqb r.id.0 c) (rising_without c r.id.
   where
     go : (b : Bool) → rising_from r.id.0 last (without c rs) ≡ true → rising_from n last (cond b (without c rs) (r ∷ without c rs)) ≡ true
     go true ih = lower n r.id.0 last (without c rs) (rise_first n last r rs h) ih
-    go false ih = both _ _ (lt-ltb n r.id.0 (rise_first n last r rs h)) ih
+    go false ih = and_from _ _ (lt-ltb n r.id.0 (rise_first n last r rs h)) ih
 
 -- a record more, above the last
 pub rising_added : (n last : ℕ) (rs : List Record) (x : Record) → last < x.id.0 → rising_from n last rs ≡ true → rising_from n x.id.0 (rs ++ x ∷ []) ≡ true
-rising_added n last [] x lt h = both _ _ (lt-ltb n x.id.0 (omega (arith, leb-true n last h))) (le-leb x.id.0 x.id.0 (omega arith))
-rising_added n last (r ∷ rs) x lt h = both _ _ (lt-ltb n r.id.0 (rise_first n last r rs h)) (rising_added r.id.0 last rs x lt (rise_rest n last r rs h))
+rising_added n last [] x lt h = and_from _ _ (lt-ltb n x.id.0 (omega (arith, leb-true n last h))) (le-leb x.id.0 x.id.0 (omega arith))
+rising_added n last (r ∷ rs) x lt h = and_from _ _ (lt-ltb n r.id.0 (rise_first n last r rs h)) (rising_added r.id.0 last rs x lt (rise_rest n last r rs h))
 
 pub rising_above : (n last top : ℕ) (rs : List Record) → last ≤ top → rising_from n last rs ≡ true → rising_from n top rs ≡ true
 rising_above n last top [] le h = le-leb n top (omega (arith, leb-true n last h))
-rising_above n last top (r ∷ rs) le h = both _ _ (lt-ltb n r.id.0 (rise_first n last r rs h)) (rising_above r.id.0 last top rs le (rise_rest n last r rs h))
+rising_above n last top (r ∷ rs) le h = and_from _ _ (lt-ltb n r.id.0 (rise_first n last r rs h)) (rising_above r.id.0 last top rs le (rise_rest n last r rs h))
 
--- a sum over the records
-sum : (Record → ℕ) → List Record → ℕ
-sum g [] = 0
-sum g (r ∷ rs) = g r + sum g rs
+-- a sum over the records, as the channels of all are, and the number of a user's calls on hold
+module _ (sum : List Record → ℕ) (g : Record → ℕ) (none : sum [] ≡ 0) (more : (r : Record) (rs : List Record) → sum (r ∷ rs) ≡ g r + sum rs) where
+  sum_change : (c : ℕ) (f : Record → Record) (n last : ℕ) (rs : List Record) (r : Record) → rising_from n last rs ≡ true → find c rs ≡ Some r → sum (change c f rs) + g r ≡ sum rs + g (f r)
+  unfolding find change
+  sum_change c f n last [] r h e = let z : ◌≡◌ {A = ℕ} 0 1 = cc in absurd (omega arith)
+  sum_change c f n last (x ∷ rs) r h e = go (eqb x.id.0 c) refl e (sum_change c f x.id.0 last rs r (rise_rest n last x rs h))
+    where
+      go : (b : Bool) → eqb x.id.0 c ≡ b → cond b (Some x) (find c rs) ≡ Some r → (find c rs ≡ Some r → sum (change c f rs) + g r ≡ sum rs + g (f r)) → sum (cond b (f x) x ∷ change c f rs) + g r ≡ sum (x ∷ rs) + g (f r)
+      go true t e ih =
+          let s : x ≡ r = cc in
+          omega (arith, more (f x) (change c f rs), more x rs, ap g s, ap (λ y. g (f y)) s, ap sum (change_above c f x.id.0 last rs (omega (arith, eqb-true _ _ t)) (rise_rest n last x rs h)))
+      go false t e ih = omega (arith, more x (change c f rs), more x rs, ih e)
 
-sum_change : (g : Record → ℕ) (c : ℕ) (f : Record → Record) (n last : ℕ) (rs : List Record) (r : Record) → rising_from n last rs ≡ true → find c rs ≡ Some r → sum g (change c f rs) + g r ≡ sum g rs + g (f r)
-unfolding sum find change
-sum_change g c f n last [] r h e = let z : ◌≡◌ {A = ℕ} 0 1 = cc in absurd (omega arith)
-sum_change g c f n last (x ∷ rs) r h e = go (eqb x.id.0 c) refl e (sum_change g c f x.id.0 last rs r (rise_rest n last x rs h))
-  where
-    go : (b : Bool) → eqb x.id.0 c ≡ b → cond b (Some x) (find c rs) ≡ Some r → (find c rs ≡ Some r → sum g (change c f rs) + g r ≡ sum g rs + g (f r)) → (g (cond b (f x) x) + sum g (change c f rs)) + g r ≡ (g x + sum g rs) + g (f r)
-    go true t e ih =
-        let s : x ≡ r = cc in
-        omega (arith, ap g s, ap (λ y. g (f y)) s, ap (sum g) (change_above c f x.id.0 last rs (omega (arith, eqb-true _ _ t)) (rise_rest n last x rs h)))
-    go false t e ih = omega (arith, ih e)
+  sum_without : (c n last : ℕ) (rs : List Record) (r : Record) → rising_from n last rs ≡ true → find c rs ≡ Some r → sum (without c rs) + g r ≡ sum rs
+  unfolding find without
+  sum_without c n last [] r h e = let z : ◌≡◌ {A = ℕ} 0 1 = cc in absurd (omega arith)
+  sum_without c n last (x ∷ rs) r h e = go (eqb x.id.0 c) refl e (sum_without c x.id.0 last rs r (rise_rest n last x rs h))
+    where
+      go : (b : Bool) → eqb x.id.0 c ≡ b → cond b (Some x) (find c rs) ≡ Some r → (find c rs ≡ Some r → sum (without c rs) + g r ≡ sum rs) → sum (cond b (without c rs) (x ∷ without c rs)) + g r ≡ sum (x ∷ rs)
+      go true t e ih =
+          let s : x ≡ r = cc in
+          omega (arith, more x rs, ap g s, ap sum (without_above c x.id.0 last rs (omega (arith, eqb-true _ _ t)) (rise_rest n last x rs h)))
+      go false t e ih = omega (arith, more x (without c rs), more x rs, ih e)
 
-sum_without : (g : Record → ℕ) (c n last : ℕ) (rs : List Record) (r : Record) → rising_from n last rs ≡ true → find c rs ≡ Some r → sum g (without c rs) + g r ≡ sum g rs
-unfolding sum find without
-sum_without g c n last [] r h e = let z : ◌≡◌ {A = ℕ} 0 1 = cc in absurd (omega arith)
-sum_without g c n last (x ∷ rs) r h e = go (eqb x.id.0 c) refl e (sum_without g c x.id.0 last rs r (rise_rest n last x rs h))
-  where
-    go : (b : Bool) → eqb x.id.0 c ≡ b → cond b (Some x) (find c rs) ≡ Some r → (find c rs ≡ Some r → sum g (without c rs) + g r ≡ sum g rs) → sum g (cond b (without c rs) (x ∷ without c rs)) + g r ≡ g x + sum g rs
-    go true t e ih =
-        let s : x ≡ r = cc in
-        omega (arith, ap g s, ap (sum g) (without_above c x.id.0 last rs (omega (arith, eqb-true _ _ t)) (rise_rest n last x rs h)))
-    go false t e ih = omega (arith, ih e)
-
-sum_added : (g : Record → ℕ) (rs : List Record) (r : Record) → sum g (rs ++ r ∷ []) ≡ sum g rs + g r
-unfolding sum
-sum_added g [] r = omega arith
-sum_added g (x ∷ rs) r = omega (arith, sum_added g rs r)
-
-sum_within : (g : Record → ℕ) (c : ℕ) (rs : List Record) (r : Record) → find c rs ≡ Some r → g r ≤ sum g rs
-unfolding sum find
-sum_within g c [] r e = let z : ◌≡◌ {A = ℕ} 0 1 = cc in absurd (omega arith)
-sum_within g c (x ∷ rs) r e = go (eqb x.id.0 c) e (sum_within g c rs r)
-  where
-    go : (b : Bool) → cond b (Some x) (find c rs) ≡ Some r → (find c rs ≡ Some r → g r ≤ sum g rs) → g r ≤ g x + sum g rs
-    go true e ih = let s : x ≡ r = cc in omega (arith, ap g s)
-    go false e ih = omega (arith, ih e)
-
--- the channels of all records are such a sum, and so is the number of a user's calls on hold
-channels_sum : (rs : List Record) → channels_of rs ≡ sum channels rs
-unfolding sum channels_of
-channels_sum [] = refl
-channels_sum (r ∷ rs) = ap (λ k. channels r + k) (channels_sum rs)
-
-held_one : ℕ → Record → ℕ
-held_one u r = one (is_on_hold (standing u r))
-
-held_sum : (u : ℕ) (rs : List Record) → held_by u rs ≡ sum (held_one u) rs
-unfolding sum held_by held_one
-held_sum u [] = refl
-held_sum u (r ∷ rs) = ap (λ k. one (is_on_hold (standing u r)) + k) (held_sum u rs)
+  sum_added : (rs : List Record) (r : Record) → sum (rs ++ r ∷ []) ≡ sum rs + g r
+  sum_added rs r = let by = is_sum_by sum g none more in by (rs ++ r ∷ []) ∙ sum_by_push g rs r ∙ ap (λ k. k + g r) (sym (by rs))
 
 pub channels_change : (c : ℕ) (f : Record → Record) (n last : ℕ) (rs : List Record) (r : Record) → rising_from n last rs ≡ true → find c rs ≡ Some r → channels_of (change c f rs) + channels r ≡ channels_of rs + channels (f r)
-channels_change c f n last rs r h e = omega (arith, sum_change channels c f n last rs r h e, channels_sum rs, channels_sum (change c f rs))
+unfolding channels_of
+channels_change = sum_change channels_of channels refl (λ _ _. refl)
 
 pub channels_without : (c n last : ℕ) (rs : List Record) (r : Record) → rising_from n last rs ≡ true → find c rs ≡ Some r → channels_of (without c rs) + channels r ≡ channels_of rs
-channels_without c n last rs r h e = omega (arith, sum_without channels c n last rs r h e, channels_sum rs, channels_sum (without c rs))
+unfolding channels_of
+channels_without = sum_without channels_of channels refl (λ _ _. refl)
 
 pub channels_added : (rs : List Record) (r : Record) → channels_of (rs ++ r ∷ []) ≡ channels_of rs + channels r
-channels_added rs r = omega (arith, sum_added channels rs r, channels_sum rs, channels_sum (rs ++ r ∷ []))
+unfolding channels_of
+channels_added = sum_added channels_of channels refl (λ _ _. refl)
 
 pub channels_within : (c : ℕ) (rs : List Record) (r : Record) → find c rs ≡ Some r → channels r ≤ channels_of rs
-channels_within c rs r e = omega (arith, sum_within channels c rs r e, channels_sum rs)
+unfolding find channels_of
+channels_within c [] r e = let z : ◌≡◌ {A = ℕ} 0 1 = cc in absurd (omega arith)
+channels_within c (x ∷ rs) r e = go (eqb x.id.0 c) e (channels_within c rs r)
+  where
+    go : (b : Bool) → cond b (Some x) (find c rs) ≡ Some r → (find c rs ≡ Some r → channels r ≤ channels_of rs) → channels r ≤ channels x + channels_of rs
+    go true e ih = let s : x ≡ r = cc in omega (arith, ap channels s)
+    go false e ih = omega (arith, ih e)
 
 pub held_change : (u c : ℕ) (f : Record → Record) (n last : ℕ) (rs : List Record) (r : Record) → rising_from n last rs ≡ true → find c rs ≡ Some r → held_by u (change c f rs) + one (is_on_hold (standing u r)) ≡ held_by u rs + one (is_on_hold (standing u (f r)))
-unfolding held_one
-held_change u c f n last rs r h e = omega (arith, sum_change (held_one u) c f n last rs r h e, held_sum u rs, held_sum u (change c f rs))
+unfolding held_by
+held_change u = sum_change (held_by u) (λ r. one (is_on_hold (standing u r))) refl (λ _ _. refl)
 
 pub held_without : (u c n last : ℕ) (rs : List Record) (r : Record) → rising_from n last rs ≡ true → find c rs ≡ Some r → held_by u (without c rs) + one (is_on_hold (standing u r)) ≡ held_by u rs
-unfolding held_one
-held_without u c n last rs r h e = omega (arith, sum_without (held_one u) c n last rs r h e, held_sum u rs, held_sum u (without c rs))
+unfolding held_by
+held_without u = sum_without (held_by u) (λ r. one (is_on_hold (standing u r))) refl (λ _ _. refl)
 
 pub held_added : (u : ℕ) (rs : List Record) (r : Record) → held_by u (rs ++ r ∷ []) ≡ held_by u rs + one (is_on_hold (standing u r))
-unfolding held_one
-held_added u rs r = omega (arith, sum_added (held_one u) rs r, held_sum u rs, held_sum u (rs ++ r ∷ []))
-
-pub held_within : (u c : ℕ) (rs : List Record) (r : Record) → find c rs ≡ Some r → one (is_on_hold (standing u r)) ≤ held_by u rs
-unfolding held_one
-held_within u c rs r e = omega (arith, sum_within (held_one u) c rs r e, held_sum u rs)
+unfolding held_by
+held_added u = sum_added (held_by u) (λ r. one (is_on_hold (standing u r))) refl (λ _ _. refl)

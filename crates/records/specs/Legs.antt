@@ -28,6 +28,11 @@ abbrev pub leg_on : Side → Record → Leg
 leg_on First r = r.first
 leg_on Second r = r.second
 
+-- a record with another leg on a side
+abbrev pub with_leg : Side → Record → Leg → Record
+with_leg First r l = record { id = r.id; live = r.live; first = l; second = r.second }
+with_leg Second r l = record { id = r.id; live = r.live; first = r.first; second = l }
+
 abbrev pub other_side : Side → Side
 other_side First = Second
 other_side Second = First

@@ -1,4 +1,5 @@
 pub mod Changes
 pub mod Legs
+pub mod Lending
 pub mod Notices
 pub mod Questions

@@ -1,5 +1,5 @@
 -- Questions asked of a list of records: where a call stands, how many a user has on hold, who is next in line. Assumes nothing.
-use Rattle.std.specs.Prelude.{ℕ, ◌+◌, Bool, true, false, cond, ◌&&◌, List, [], ◌∷◌, Some, None, Option, ◌==◌, nat_le, nat_lt}
+use Rattle.std.specs.Prelude.{ℕ, ◌+◌, Bool, true, false, cond, ◌&&◌, List, [], ◌∷◌, length, Some, None, Option, ◌==◌, nat_le, nat_lt}
 use Rattle.register.specs.declared.user.User.{User}
 use Rattle.records.specs.Legs.{one, side_of, leg_on, other_side, standing, is_on_hold, channels}
 use Rattle.records.specs.declared.legs.Record.{Record}
@@ -9,6 +9,10 @@ use Rattle.records.specs.declared.legs.Side.{Side}
 abbrev pub place : ℕ → List Record → ℕ
 place c [] = 0
 place c (r ∷ rs) = cond (r.id.0 == c) 0 (place c rs + 1)
+
+-- the place, if the call has a record
+abbrev pub placed : ℕ → List Record → Option ℕ
+placed c rs = cond (nat_lt (place c rs) (length rs)) (Some (place c rs)) None
 
 -- each identifier is above the one before, the first above n, and none is above the last
 abbrev pub rising_from : ℕ → ℕ → List Record → Bool

@@ -1,7 +1,7 @@
 // The changes of a record, with the channels that they draw and give back.
 ghost use Rattle.std.specs.Prelude.{◌≡◌, ◌-◌};
 ghost use Rattle.pool.specs.Pool.{drawn_both, drawn_for, freed, leaves_two};
-ghost use Rattle.records.specs.Changes.{can_carry, cleared, cleared_by, connected_if, ended, hushed, joined, put_on_hold, retrieved_if};
+ghost use Rattle.records.specs.Changes.{can_carry, cleared, cleared_by, connected_if, hushed, joined, put_on_hold, retrieved_if};
 ghost use Rattle.records.specs.Legs.{channels, leg_on};
 
 use crate::legs::{Leg, Record, Side};
@@ -43,16 +43,8 @@ impl Record {
         ensures used { pool.new.used ≡ freed (leg_on side self.old).bearer pool.old }
         ensures size { pool.new.size ≡ pool.old.size }
     {
-        match side {
-            Side::First => {
-                pool.release(&mut self.first.bearer);
-                self.second.news = Some(News::PutOnHold);
-            }
-            Side::Second => {
-                pool.release(&mut self.second.bearer);
-                self.first.news = Some(News::PutOnHold);
-            }
-        }
+        pool.release(&mut self.leg_mut(side).bearer);
+        self.leg_mut(side.other()).news = Some(News::PutOnHold);
     }
 
     // Retrieves a leg: it gets a channel, if one is free, and the other party has news of it; answers whether it has one now.
@@ -62,34 +54,11 @@ impl Record {
         ensures used { pool.new.used ≡ drawn_for pool.old (leg_on side self.old).bearer }
         ensures size { pool.new.size ≡ pool.old.size }
     {
-        match side {
-            Side::First => {
-                if !carry_one(pool, &mut self.first.bearer) {
-                    return false;
-                }
-                self.second.news = Some(News::Retrieved);
-            }
-            Side::Second => {
-                if !carry_one(pool, &mut self.second.bearer) {
-                    return false;
-                }
-                self.first.news = Some(News::Retrieved);
-            }
+        let granted = carry_one(pool, &mut self.leg_mut(side).bearer);
+        if granted {
+            self.leg_mut(side.other()).news = Some(News::Retrieved);
         }
-        true
-    }
-
-    // The call is no more: the channels of the legs that have one go back, and each party has the news given, or none.
-    fn end(&mut self, first: Option<News>, second: Option<News>, pool: &mut Pool)
-        ensures record { self.new ≡ ended first second self.old }
-        ensures used { pool.new.used ≡ pool.old.used - channels self.old }
-        ensures size { pool.new.size ≡ pool.old.size }
-    {
-        pool.release(&mut self.first.bearer);
-        pool.release(&mut self.second.bearer);
-        self.live = false;
-        self.first.news = first;
-        self.second.news = second;
+        granted
     }
 
     // Clears the call for the party on a side: his own news is dropped, and the other has the news of it.
@@ -98,28 +67,27 @@ impl Record {
         ensures used { pool.new.used ≡ pool.old.used - channels self.old }
         ensures size { pool.new.size ≡ pool.old.size }
     {
-        match side {
-            Side::First => self.end(None, Some(News::Released), pool),
-            Side::Second => self.end(Some(News::Released), None, pool),
-        }
+        self.clear(pool);
+        self.hush(side);
     }
 
-    // Clears the call for the network: both parties have the news of it.
+    // Clears the call for the network: the channels of the legs that have one go back, and both parties have the news of it.
     pub fn clear(&mut self, pool: &mut Pool)
         ensures record { self.new ≡ cleared self.old }
         ensures used { pool.new.used ≡ pool.old.used - channels self.old }
         ensures size { pool.new.size ≡ pool.old.size }
     {
-        self.end(Some(News::Released), Some(News::Released), pool);
+        pool.release(&mut self.first.bearer);
+        pool.release(&mut self.second.bearer);
+        self.live = false;
+        self.first.news = Some(News::Released);
+        self.second.news = Some(News::Released);
     }
 
     // The party on a side was told his news.
     pub fn hush(&mut self, side: Side)
         ensures { self.new ≡ hushed side self.old }
     {
-        match side {
-            Side::First => self.first.news = None,
-            Side::Second => self.second.news = None,
-        }
+        self.leg_mut(side).news = None;
     }
 }

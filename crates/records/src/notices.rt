@@ -1,6 +1,6 @@
 // The next notice of a user.
 ghost use Rattle.std.specs.Prelude.{◌≡◌, ℕ, true};
-ghost use Rattle.records.specs.Notices.{Best, better, next_notice, notice_of, rank};
+ghost use Rattle.records.specs.Notices.{Best, better, next_notice, notice_of};
 ghost use Rattle.records.specs.Questions.{rising};
 
 use crate::legs::Record;
@@ -8,21 +8,10 @@ use frames::{CallId, News};
 use register::User;
 
 // News of a call, as a party is told it.
-#[derive(Clone, Copy)]
+#[derive(Clone, Copy, Debug, PartialEq, Eq)]
 pub struct Notice {
     pub call: CallId,
     pub news: News,
-}
-
-// Released before retrieved before put on hold.
-fn rank(news: News) -> u8
-    ensures { result ≡ rank news }
-{
-    match news {
-        News::PutOnHold => 1,
-        News::Retrieved => 2,
-        News::Released => 3,
-    }
 }
 
 // The first of two, unless the second ranks higher.
@@ -30,29 +19,20 @@ fn better(one: Option<Notice>, other: Option<Notice>) -> Option<Notice>
     ensures { result ≡ better one other }
 {
     match (one, other) {
-        (None, q) => q,
-        (Some(p), None) => Some(p),
-        (Some(p), Some(q)) => {
-            if rank(p.news) < rank(q.news) {
-                Some(q)
-            } else {
-                Some(p)
-            }
-        }
+        (Some(p), Some(q)) if p.news < q.news => Some(q),
+        (one, other) => one.or(other),
     }
 }
 
 fn notice_of(call: CallId, news: Option<News>) -> Option<Notice>
     ensures { result ≡ notice_of call news }
 {
-    match news {
-        None => None,
-        Some(news) => Some(Notice { call, news }),
-    }
+    news.map(|news| Notice { call, news })
 }
 
 // The next notice of a user: the better of the first record's and the next notice of the rest.
 // Where identifiers rise, that is the best of all: what ranks highest, and among equals the lowest call.
+// It is recursive as its rule is; a switch has at most 64 records.
 pub fn next_notice(records: &[Record], user: User) -> Option<Notice>
     ensures choice { result ≡ next_notice user.0 records.now }
     ensures best { (last : ℕ) → rising last records.now ≡ true → Best user.0 records.now result }

@@ -13,9 +13,9 @@ impl Record {
     pub fn side_of(&self, user: User) -> Option<Side>
         ensures { result ≡ side_of user.0 self.now }
     {
-        if self.first.user.same(user) {
+        if self.first.user == user {
             Some(Side::First)
-        } else if self.second.user.same(user) {
+        } else if self.second.user == user {
             Some(Side::Second)
         } else {
             None
@@ -29,15 +29,10 @@ impl Record {
         if !self.live {
             return Standing::Absent;
         }
-        let carried = match self.side_of(user) {
-            None => return Standing::Absent,
-            Some(Side::First) => self.first.bearer.channel,
-            Some(Side::Second) => self.second.bearer.channel,
-        };
-        if carried {
-            Standing::Talking
-        } else {
-            Standing::OnHold
+        match self.side_of(user) {
+            None => Standing::Absent,
+            Some(side) if self.leg(side).bearer.channel => Standing::Talking,
+            Some(_) => Standing::OnHold,
         }
     }
 
@@ -66,9 +61,7 @@ impl Record {
     pub fn news_for(&self, user: User) -> Option<News>
         ensures { result ≡ news_for user.0 self.now }
     {
-        match self.side_of(user)? {
-            Side::First => self.first.news,
-            Side::Second => self.second.news,
-        }
+        let side = self.side_of(user)?;
+        self.leg(side).news
     }
 }

@@ -1,3 +1,5 @@
+pub mod Entries
 pub mod General
+pub mod Refusal
 pub mod Table
 pub mod User

@@ -4,9 +4,11 @@
 #![tactic(auto)]
 
 mod general;
+mod refusal;
 mod register;
 mod table;
 mod user;
+mod words;
 
 pub use general::General;
 pub use register::Register;

@@ -1,4 +1,7 @@
 // A register read from a table of users and limits, which is lent to it.
+ghost use Rattle.std.specs.Prelude.{◌≡◌, true};
+ghost use Rattle.register.specs.Entries.{limits_fit, users_rise};
+
 mod checks;
 mod ops;
 
@@ -14,4 +17,6 @@ pub struct Entry {
 #[derive(Drop)]
 pub struct Table<'a> {
     entries: &'a [Entry],
+    ghost limits: { limits_fit entries.now ≡ true },
+    ghost order: { users_rise 0 entries.now ≡ true },
 }

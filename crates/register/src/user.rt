@@ -1,11 +1,12 @@
-// A user, known by his SSI. Whatever compares users does so by the tests of this file.
+// A user, known by his SSI.
 ghost use Rattle.std.specs.Prelude.{◌≡◌};
+ghost use Rattle.std.specs.Ordering.{partial_lt};
 ghost use Rattle.register.specs.User.{before, is_user, same, Order, Tells};
 
 // The highest SSI.
 const HIGHEST: u32 = 16_777_215;
 
-#[derive(Clone, Copy)]
+#[derive(Clone, Copy, Debug, PartialEq, Eq, PartialOrd, Ord)]
 pub struct User(pub u32);
 
 impl User {
@@ -13,26 +14,14 @@ impl User {
     pub fn is_user(self) -> bool
         ensures { result ≡ is_user self.0 }
     {
-        self.0 > 0 && self.0 <= HIGHEST
-    }
-
-    // Whether both are the same user.
-    pub fn same(self, other: User) -> bool
-        ensures { result ≡ same self.0 other.0 }
-    {
-        self.0 == other.0
-    }
-
-    // Whether this user comes before another in a table.
-    pub fn before(self, other: User) -> bool
-        ensures { result ≡ before self.0 other.0 }
-    {
-        self.0 < other.0
+        (1..=HIGHEST).contains(&self.0)
     }
 }
 
-// States that `same` decides whether users are equal, and that `before` is a strict total order of them.
+// States that `==` decides whether users are equal and that `<` is a strict total order of them: both go by their numbers.
 pub fn user_laws()
     ensures equality { Tells }
     ensures order { Order }
+    ensures equal { (a b : User) → ⟦<User as PartialEq>⟧.eq a b ≡ same a.0 b.0 }
+    ensures less { (a b : User) → partial_lt ⟦<User as PartialOrd>⟧.partial_cmp a b ≡ before a.0 b.0 }
 {}

@@ -1,9 +1,11 @@
 // Making a pool, drawing its channels and taking them back.
+// Size and use are clauses apart: a definition of the whole pool would have to make its proofs, and callers take the two apart anyway.
 ghost use Rattle.std.specs.Prelude.{◌≡◌, ◌-◌, ◌≤◌, false};
 ghost use Rattle.pool.specs.Pool.{bare, claim_unless, drawn, freed, full, makes_pool, spent_claim, told_pool};
 
 use super::Pool;
 use crate::claim::{Bearer, Claim};
+use crate::refusal::Refusal;
 use text::Fault;
 
 impl Pool {
@@ -12,8 +14,8 @@ impl Pool {
     pub fn new(size: u8) -> Result<Pool, Fault>
         ensures { told_pool result ≡ makes_pool size }
     {
-        if size == 0 || size > 128 {
-            return Err(Fault::in_making(53));
+        if !(1..=128).contains(&size) {
+            return Err(Refusal::SizeOutOfRange.into());
         }
         Ok(Pool { size, used: 0 })
     }
@@ -74,11 +76,7 @@ impl Pool {
     {
         let had = leg.channel;
         leg.channel = false;
-        self.used = if had {
-            self.used.saturating_sub(1)
-        } else {
-            self.used
-        };
+        self.used = self.used.saturating_sub(u8::from(had));
         had
     }
 }

@@ -3,6 +3,7 @@ ghost use Rattle.std.specs.Prelude.{◌≡◌};
 ghost use Rattle.register.specs.General.{makes_general, told_general};
 
 use super::General;
+use crate::refusal::Refusal;
 use crate::register::Register;
 use crate::user::User;
 use text::Fault;
@@ -13,8 +14,8 @@ impl General {
     pub fn new(limit: u8) -> Result<General, Fault>
         ensures { told_general result ≡ makes_general limit }
     {
-        if limit == 0 || limit > 7 {
-            return Err(Fault::in_making(51));
+        if !(1..=7).contains(&limit) {
+            return Err(Refusal::LimitOutOfRange.into());
         }
         Ok(General { limit })
     }

@@ -1,8 +1,10 @@
-// What a table is checked for, and the search for a user in it.
+// What a table is checked for.
 ghost use Rattle.std.specs.Prelude.{◌≡◌};
-ghost use Rattle.register.specs.Table.{checks_table, fits, found, limits_fit, next, users_rise};
+ghost use Rattle.register.specs.Entries.{checks_table, fits, limits_fit, users_rise};
+ghost use Rattle.register.specs.User.{before};
 
 use super::Entry;
+use crate::refusal::Refusal;
 use crate::user::User;
 use text::Fault;
 
@@ -17,33 +19,21 @@ fn limit_fits(limit: u8) -> bool
 fn limits_fit(entries: &[Entry]) -> bool
     ensures { result ≡ limits_fit entries.now }
 {
-    for entry in entries {
-        if !limit_fits(entry.limit) {
-            return false;
-        }
-    }
-    true
+    entries.iter().all(|entry| limit_fits(entry.limit))
 }
 
-// Whether a user may stand next in a table, after the last one.
-fn may_follow(last: User, user: User) -> bool
-    ensures { result ≡ next last.0 user.0 }
+// Whether two neighbours stand in order.
+fn in_order(one: &Entry, next: &Entry) -> bool
+    ensures { result ≡ before one.now.user.0 next.now.user.0 }
 {
-    last.before(user) && user.is_user()
+    one.user < next.user
 }
 
 // Whether each user is in range, and comes after the one before him.
 fn users_rise(entries: &[Entry]) -> bool
     ensures { result ≡ users_rise 0 entries.now }
 {
-    let mut last = User(0);
-    for entry in entries {
-        if !may_follow(last, entry.user) {
-            return false;
-        }
-        last = entry.user;
-    }
-    true
+    entries.iter().all(|entry| entry.user.is_user()) && entries.is_sorted_by(in_order)
 }
 
 // 51 for a limit over 7 anywhere in the table, then 52 for users that are out of range or do not rise.
@@ -51,22 +41,10 @@ pub(crate) fn check(entries: &[Entry]) -> Result<(), Fault>
     ensures { result ≡ checks_table entries.now }
 {
     if !limits_fit(entries) {
-        return Err(Fault::in_making(51));
+        return Err(Refusal::LimitOutOfRange.into());
     }
     if !users_rise(entries) {
-        return Err(Fault::in_making(52));
+        return Err(Refusal::UsersDoNotRise.into());
     }
     Ok(())
-}
-
-// The limit that a table has for a user; none for one who is absent.
-pub(crate) fn find(entries: &[Entry], user: User) -> Option<u8>
-    ensures { result ≡ found user.0 entries.now }
-{
-    for entry in entries {
-        if entry.user.same(user) {
-            return Some(entry.limit);
-        }
-    }
-    None
 }

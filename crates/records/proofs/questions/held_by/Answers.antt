@@ -1,15 +1,12 @@
--- A turn counts the record that it passes.
-use Rattle.std.proofs.Common.{true, false, sym, ◌∙◌, arith}
-use Rattle.records.proofs.Turns.{held_more, held_past}
+use Rattle.std.proofs.Common.{sym, ◌∙◌, rules, tests}
+use Rattle.std.proofs.lemmas.Iterator.{YieldsList-from_slice}
+use Rattle.std.proofs.lemmas.Iterator.Consumers.{YieldsList-from_filter, count_from_yields_List}
+use Rattle.records.specs.Legs.{standing, is_on_hold}
+use Rattle.records.specs.declared.legs.Record.{Record}
+use Rattle.records.proofs.Asked.{held_is}
 use Rattle.records.proofs.questions.held_by.Goals as goal
-use Rattle.records.proofs.questions.held_by.Goals.{then-is_held_by, else-is_held_by}
-
-pub loop-record-preserved : goal.loop-record-preserved
-loop-record-preserved c =
-    elim c.if-is_held_by.branch [
-      | then-is_held_by w ↦ (omega (arith, w.held-is, c.loop-record.invariant.0, held_more c.args.user.0 c.args.records.now c.loop-record.record-index _ true c.loop-record-test.true (sym c.is_held_by.ensures ∙ w.if-is_held_by.true)), omega (arith, w.held-is, c.loop-record.invariant.1))
-      | else-is_held_by w ↦ (omega (arith, w.held-is, c.loop-record.invariant.0, held_more c.args.user.0 c.args.records.now c.loop-record.record-index _ false c.loop-record-test.true (sym c.is_held_by.ensures ∙ w.if-is_held_by.false)), omega (arith, w.held-is, c.loop-record.invariant.1))
-    ]
 
 pub returns : goal.returns
-returns c = omega (arith, c.loop-record.invariant.0, held_past c.args.user.0 c.args.records.now c.loop-record.record-index c.loop-record-test.false)
+returns c =
+    count_from_yields_List _ _ c.count.ensures.ran (YieldsList-from_filter _ (λ (r : Record). is_on_hold (standing c.args.user.0 r)) (YieldsList-from_slice c.args.records.now cc) c.filter.ensures.closure (λ x b q k. search (rules, tests)))
+    ∙ sym (held_is c.args.user.0 c.args.records.now)

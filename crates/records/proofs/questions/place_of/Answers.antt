@@ -1,13 +1,12 @@
--- A turn passes a record with another identifier, or ends at the place.
-use Rattle.std.proofs.Common.{arith}
-use Rattle.records.proofs.Turns.{place_hit, place_miss, place_past}
+use Rattle.std.proofs.Common.{ℕ, cond, eqb, ltb, length, Some, None, sym, ap, ◌∙◌, rules, tests}
+use Rattle.std.proofs.lemmas.Iterator.{YieldsList-from_slice}
+use Rattle.std.proofs.lemmas.Iterator.Search.{position_from_yields_List}
+use Rattle.records.specs.declared.legs.Record.{Record}
+use Rattle.records.proofs.Asked.{place_is}
 use Rattle.records.proofs.questions.place_of.Goals as goal
 
-pub returns-then-record-call : goal.returns-then-record-call
-returns-then-record-call c = omega (arith, c.loop-i.invariant, place_hit c.args.call.0 c.args.records.now c.loop-i.i _ c.loop-i-test.true c.if-record-call.true)
-
-pub loop-i-preserved : goal.loop-i-preserved
-loop-i-preserved c = omega (arith, c.loop-i.invariant, place_miss c.args.call.0 c.args.records.now c.loop-i.i _ c.loop-i-test.true c.if-record-call.false)
-
 pub returns : goal.returns
-returns c = omega (arith, c.loop-i.invariant, place_past c.args.call.0 c.args.records.now c.loop-i.i c.loop-i-test.false, c.loop-i.auto.i-end)
+returns c =
+    let rs = c.args.records.now in
+    position_from_yields_List (λ (r : Record). eqb r.id.0 c.args.call.0) _ _ _ c.position.ensures.ran (YieldsList-from_slice rs cc) (λ x b q k. search (rules, tests))
+    ∙ ap (λ (k : ℕ). cond (ltb k (length rs)) (Some k) None) (sym (place_is c.args.call.0 rs))

@@ -1,5 +1,6 @@
-use Rattle.register.proofs.Tables.{made_means}
+use Rattle.std.proofs.Common.{rules}
+use Rattle.register.proofs.Tables.{means}
 use Rattle.register.proofs.table.Table.new.Goals as goal
 
-pub returns : goal.returns
-returns c = record { outcome = c.checked.ensures; meaning = made_means c.args.entries.now c.checked.result c.checked.ensures }
+pub returns-clause-meaning : goal.returns-clause-meaning
+returns-clause-meaning c = means c.args.entries.now (search rules) (search rules)

@@ -1,14 +1,14 @@
-use Rattle.std.proofs.Common.{sym, ◌∙◌}
-use Rattle.std.proofs.lemmas.List.{at_drop_more, at_drop_all}
-use Rattle.register.specs.Table.{blank, limits_fit}
-use Rattle.register.proofs.Tables.{stops, goes_on}
+use Rattle.std.proofs.Common.{◌&&◌, refl, ◌∙◌, rules, tests}
+use Rattle.std.specs.List.{list_all}
+use Rattle.std.proofs.lemmas.Iterator.{YieldsList-from_slice}
+use Rattle.std.proofs.lemmas.Iterator.Search.{all_from_yields_List}
+use Rattle.std.proofs.lemmas.List.Recursion.{same_from_clauses}
+use Rattle.register.specs.Entries.{fits, limits_fit}
+use Rattle.register.specs.declared.table.Entry.{Entry}
 use Rattle.register.proofs.table.checks.limits_fit.Goals as goal
 
-pub returns-then-not-limit_fits : goal.returns-then-not-limit_fits
-returns-then-not-limit_fits c = stops _ _ _ _ (sym c.if-not-limit_fits.ensures) (at_drop_more limits_fit c.args.entries.now c.loop-entry.entry-index blank c.loop-entry-test.true) c.loop-entry.invariant
-
-pub loop-entry-preserved : goal.loop-entry-preserved
-loop-entry-preserved c = goes_on _ _ _ _ (sym c.if-not-limit_fits.ensures) (at_drop_more limits_fit c.args.entries.now c.loop-entry.entry-index blank c.loop-entry-test.true) c.loop-entry.invariant
-
 pub returns : goal.returns
-returns c = sym (at_drop_all limits_fit c.args.entries.now c.loop-entry.entry-index c.loop-entry-test.false) ∙ c.loop-entry.invariant
+returns c =
+    let es = c.args.entries.now in
+    all_from_yields_List (λ (e : Entry). fits e.limit) _ _ _ c.all.ensures.ran (YieldsList-from_slice es cc) (λ x b q k. search (rules, tests))
+    ∙ same_from_clauses (list_all (λ (e : Entry). fits e.limit)) limits_fit (λ e b. fits e.limit && b) refl (λ _ _. refl) (λ _ _. refl) es

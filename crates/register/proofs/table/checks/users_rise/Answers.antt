@@ -1,14 +1,18 @@
-use Rattle.std.proofs.Common.{sym, ◌∙◌}
-use Rattle.std.proofs.lemmas.List.{at_drop_more, at_drop_all}
-use Rattle.register.specs.Table.{blank, users_rise}
-use Rattle.register.proofs.Tables.{stops, goes_on}
+use Rattle.std.proofs.Common.{◌∙◌, sym, rules, tests}
+use Rattle.std.proofs.lemmas.Iterator.{YieldsList-from_slice}
+use Rattle.std.proofs.lemmas.Iterator.Search.{all_from_yields_List}
+use Rattle.std.proofs.lemmas.List.Sorted.{answers_always}
+use Rattle.register.specs.User.{before, is_user}
+use Rattle.register.specs.declared.table.Entry.{Entry}
+use Rattle.register.proofs.Tables.{rise_is, rise_not}
 use Rattle.register.proofs.table.checks.users_rise.Goals as goal
 
-pub returns-then-not-may_follow : goal.returns-then-not-may_follow
-returns-then-not-may_follow c = stops _ _ _ _ (sym c.if-not-may_follow.ensures) (at_drop_more (users_rise c.loop-entry.last.0) c.args.entries.now c.loop-entry.entry-index blank c.loop-entry-test.true) c.loop-entry.invariant
+pub returns-then-all : goal.returns-then-all
+returns-then-all c =
+    let es = c.args.entries.now in
+    rise_is es _ (sym (all_from_yields_List (λ (e : Entry). is_user e.user.0) _ _ _ c.all.ensures.ran (YieldsList-from_slice es cc) (λ x b q k. search (rules, tests))) ∙ c.if-all.true) (c.is_sorted_by.ensures.cases (λ x y. before x.user.0 y.user.0) (answers_always _ _ _ (λ f a r g k. search (rules, tests))))
 
-pub loop-entry-preserved : goal.loop-entry-preserved
-loop-entry-preserved c = goes_on _ _ _ _ (sym c.if-not-may_follow.ensures) (at_drop_more (users_rise c.loop-entry.last.0) c.args.entries.now c.loop-entry.entry-index blank c.loop-entry-test.true) c.loop-entry.invariant
-
-pub returns : goal.returns
-returns c = sym (at_drop_all (users_rise c.loop-entry.last.0) c.args.entries.now c.loop-entry.entry-index c.loop-entry-test.false) ∙ c.loop-entry.invariant
+pub returns-else-all : goal.returns-else-all
+returns-else-all c =
+    let es = c.args.entries.now in
+    c.if-all.false ∙ rise_not es (sym (all_from_yields_List (λ (e : Entry). is_user e.user.0) _ _ _ c.all.ensures.ran (YieldsList-from_slice es cc) (λ x b q k. search (rules, tests))) ∙ c.if-all.false)
