@@ -1,6 +1,7 @@
 -- The writer does not refuse a frame that can be written, so posting it sends it. Assumes nothing.
-use Rattle.std.proofs.Common.{◌≡◌, ℕ, ◌≤◌, Bool, true, false, not, ◌&&◌, ◌||◌, ltb, List, is_some, Some, None, Ok, Option, Result, refl, ap, ◌∙◌, subst, le-ltb}
+use Rattle.std.proofs.Common.{◌≡◌, ℕ, ◌≤◌, Bool, true, false, List, is_some, Some, None, Ok, Option, Result, refl, ap, ◌∙◌, subst, arith}
 use borrow.Author.Tests.{clash}
+use Rattle.std.proofs.lemmas.Bool.Decides.{nat_tests}
 use Rattle.std.specs.Result.{result_err}
 use Rattle.frames.specs.Codes.{kind, cause_number}
 use Rattle.frames.specs.Layout.{no_call, bars_bit}
@@ -11,20 +12,16 @@ use Rattle.frames.specs.declared.content.CallId.{CallId}
 use Rattle.frames.specs.declared.content.Frame.{Frame}
 use Rattle.frames.specs.declared.content.News.{News}
 use Rattle.frames.specs.declared.content.Operation.{Operation}
-use Rattle.frames.specs.declared.content.Verdict.{Verdict}
 use Rattle.frames.specs.declared.content.Verdict.TheVariants.{Granted, Declined}
 use Rattle.links.specs.Meaning.{SendAnswer}
 use Rattle.text.specs.Fault.{in_frame, unless}
 use Rattle.text.specs.declared.fault.Fault.{Fault}
-use Rattle.signalling.specs.Ask.{body_for}
 use Rattle.signalling.specs.Carrying.{Posts, Posting, Sending, Telling}
 use Rattle.signalling.specs.Writable.{lists, writable, Written}
-use Rattle.signalling.specs.declared.ask.Ask.{Ask}
-use Rattle.signalling.specs.declared.ask.Ask.TheVariants.{Hold, Retrieve, Clear}
 
 -- identifiers from 1 to 16,383
 pub in_range : (n : ℕ) → 1 ≤ n → n ≤ 16383 → no_call n ≡ false
-in_range n low high = ap (λ (x : Bool). x || ltb 16383 n) (le-ltb n 1 low) ∙ le-ltb 16383 n high
+in_range n low high = grind (arith, nat_tests)
 
 -- the PDU of a body
 declined_pdu : (o : Operation) (n : Option ℕ) → is_some n ≡ true → (p : ℕ × List ℕ) × (pdu_of (declined o n) ≡ Ok p)
@@ -47,25 +44,9 @@ checked f c x h =
     record { bytes = _; is = ap (λ s. P s (no_call f.call.0)) x ∙ ap (λ t. P false t) c ∙ ap (framed f) p.1 }
 
 pub written : (f : Frame) → writable f ≡ true → Written f
-written f h = go (no_call f.call.0) (bars_bit (kind f.body) f.exchange) refl refl h
-  where
-    go : (n x : Bool) → no_call f.call.0 ≡ n → bars_bit (kind f.body) f.exchange ≡ x → (not n && (not x && lists f.body)) ≡ true → Written f
-    go true x p q h = absurd (clash h)
-    go false true p q h = absurd (clash h)
-    go false false p q h = checked f p q h
+written f h = let p = checked f in grind (arith, nat_tests, p)
 
--- each kind of frame
-pub written_ask : (x : Bool) (c : CallId) (k : Ask) → no_call c.0 ≡ false → Written (record { exchange = x; call = c; body = body_for k })
-written_ask x c Hold h = checked _ h refl refl
-written_ask x c Retrieve h = checked _ h refl refl
-written_ask x c Clear h = checked _ h refl refl
-
-pub written_answer : (x : Bool) (c : CallId) (o : Operation) (v : Verdict) → no_call c.0 ≡ false → lists (Answer o v) ≡ true → Written (record { exchange = x; call = c; body = Answer o v })
-written_answer x c o v h l = checked _ h refl l
-
-pub written_clear_answer : (x : Bool) (c : CallId) → no_call c.0 ≡ false → Written (record { exchange = x; call = c; body = ClearAnswer })
-written_clear_answer x c h = checked _ h refl refl
-
+-- a notice's frame
 pub written_notice : (c : CallId) (w : News) → no_call c.0 ≡ false → Written (record { exchange = false; call = c; body = Notice w })
 written_notice c w h = checked _ h refl refl
 

@@ -1,3 +1,4 @@
 pub mod Ask
 pub mod Carrying
+pub mod Words
 pub mod Writable

@@ -1,6 +1,6 @@
 // What a terminal may ask of its switch.
 ghost use Rattle.std.specs.Prelude.{◌≡◌, Some};
-ghost use Rattle.signalling.specs.Ask.{asked_by, same_ask, body_for, ask_of};
+ghost use Rattle.signalling.specs.Ask.{asked_by, body_for, ask_of};
 
 use frames::{Body, Operation};
 
@@ -11,48 +11,40 @@ pub enum Ask {
     Clear,
 }
 
-impl Ask {
-    // What an operation's request asks, and its answer answers.
-    pub fn of(operation: Operation) -> Ask
-        ensures { result ≡ asked_by operation }
-    {
+// What an operation's request asks, and its answer answers.
+impl From<Operation> for Ask {
+    ghost from_gives = { λ operation ask. ask ≡ asked_by operation };
+
+    fn from(operation: Operation) -> Ask {
         match operation {
             Operation::Hold => Ask::Hold,
             Operation::Retrieve => Ask::Retrieve,
         }
     }
+}
 
+impl Ask {
     // What a body asks, if it is a request's or a clear request's.
     pub fn in_body(body: Body) -> Option<Ask>
         ensures { result ≡ ask_of body }
     {
         match body {
-            Body::Request(operation) => Some(Ask::of(operation)),
+            Body::Request(operation) => Some(operation.into()),
             Body::ClearRequest => Some(Ask::Clear),
             Body::Answer(_, _) | Body::ClearAnswer | Body::Notice(_) => None,
         }
     }
+}
 
-    // The body of its request's frame, which asks it.
-    pub fn body(self) -> Body
-        ensures body { result ≡ body_for self }
-        ensures asks { ask_of result ≡ Some self }
-    {
-        match self {
+// The body of its request's frame, which asks it.
+impl From<Ask> for Body {
+    ghost from_gives = { λ ask body. (body ≡ body_for ask) × (ask_of body ≡ Some ask) };
+
+    fn from(ask: Ask) -> Body {
+        match ask {
             Ask::Hold => Body::Request(Operation::Hold),
             Ask::Retrieve => Body::Request(Operation::Retrieve),
             Ask::Clear => Body::ClearRequest,
-        }
-    }
-
-    pub fn is(self, other: Ask) -> bool
-        ensures { result ≡ same_ask self other }
-    {
-        match (self, other) {
-            (Ask::Hold, Ask::Hold) => true,
-            (Ask::Retrieve, Ask::Retrieve) => true,
-            (Ask::Clear, Ask::Clear) => true,
-            _ => false,
         }
     }
 }

@@ -11,8 +11,7 @@ fn read_first(memory: &[u8], count: usize) -> Result<Option<Frame>, Fault>
     requires { count ≤ length memory.now }
     ensures { result ≡ pulled memory.now (Some count) }
 {
-    let frame = read(&memory[..count])?;
-    Ok(Some(frame))
+    read(&memory[..count]).map(Some)
 }
 
 // Takes one frame from a link and reads it; nothing if none waits.

@@ -5,6 +5,7 @@
 
 mod ask;
 mod carrying;
+mod words;
 
 pub use ask::Ask;
 pub use carrying::{post, pull};

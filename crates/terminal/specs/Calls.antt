@@ -1,5 +1,5 @@
 -- The calls that a terminal holds. Assumes nothing.
-use Rattle.std.specs.Prelude.{ℕ, ◌+◌, Bool, true, cond, ◌&&◌, List, [], ◌∷◌, Some, None, Option, ◌==◌, nat_le, nat_lt}
+use Rattle.std.specs.Prelude.{◌≡◌, ℕ, ◌+◌, ◌≤◌, Bool, true, cond, ◌&&◌, List, [], ◌∷◌, length, Some, None, Option, ◌==◌, nat_le, nat_lt}
 use Rattle.terminal.specs.declared.call.Call.{Call}
 use Rattle.terminal.specs.declared.request.Request.{Request}
 
@@ -17,10 +17,20 @@ abbrev pub known : ℕ → Option Request → Bool
 known last None = true
 known last (Some q) = nat_lt 0 q.call.0 && nat_le q.call.0 last
 
+-- what holds of every terminal
+pub record Sound (last : ℕ) (calls : List Call) (request : Option Request) : Type 0 where
+  pub ids : rising last calls ≡ true
+  pub top : last ≤ 16383
+  pub asked : known last request ≡ true
+
 -- the place of a call, or the length
 abbrev pub place : ℕ → List Call → ℕ
 place n [] = 0
 place n (c ∷ cs) = cond (c.id.0 == n) 0 (place n cs + 1)
+
+-- the place of a call that is held
+abbrev pub held_at : ℕ → List Call → Option ℕ
+held_at n cs = cond (nat_lt (place n cs) (length cs)) (Some (place n cs)) None
 
 -- the call that has an identifier
 abbrev pub find : ℕ → List Call → Option Call

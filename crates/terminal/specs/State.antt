@@ -1,23 +1,18 @@
 -- The state of a terminal, and connecting. Assumes nothing.
-use Rattle.std.specs.Prelude.{ℕ, Bool, false, ◌||◌, List, [], ◌∷◌, ◌++◌, length, None, Ok, Err, vec_items, Option, Result, nat_le}
+use Rattle.std.specs.Prelude.{ℕ, Bool, false, ◌||◌, List, [], ◌∷◌, ◌++◌, length, None, Ok, Err, Option, Result, nat_le}
 use Rattle.frames.specs.Layout.{no_call}
 use Rattle.frames.specs.declared.content.CallId.{CallId}
 use Rattle.text.specs.Fault.{in_terminal, unless}
 use Rattle.text.specs.declared.fault.Fault.{Fault}
 use Rattle.terminal.specs.declared.call.Call.{Call}
 use Rattle.terminal.specs.declared.request.Request.{Request}
-use Rattle.terminal.specs.declared.terminal.Terminal.{Terminal}
 
--- `last` is the highest identifier ever accepted, `exchange` the exchange bit of the open request, or of the next one
+-- what a terminal is to its callers: `last` is the highest identifier ever accepted, `exchange` the exchange bit of the open request, or of the next one
 pub record Model : Type 0 where
   pub calls : List Call
   pub last : ℕ
   pub request : Option Request
   pub exchange : Bool
-
--- the state that a terminal has
-abbrev pub model : Terminal → Model
-model t = record { calls = vec_items t.table.calls; last = t.last; request = t.request; exchange = t.exchange }
 
 -- a new terminal
 abbrev pub fresh : Model

@@ -4,6 +4,7 @@
 #![tactic(auto)]
 
 mod call;
+mod refusal;
 mod request;
 mod table;
 mod terminal;

@@ -21,11 +21,7 @@ const COUNTDOWN: u8 = 20;
 pub(crate) fn is_pointless(ask: Ask, own: bool) -> bool
     ensures { result ≡ pointless ask own }
 {
-    match ask {
-        Ask::Hold => own,
-        Ask::Retrieve => !own,
-        Ask::Clear => false,
-    }
+    matches!((ask, own), (Ask::Hold, true) | (Ask::Retrieve, false))
 }
 
 impl Request {
@@ -44,16 +40,10 @@ impl Request {
     pub(crate) fn repeated(self) -> Request
         ensures { result ≡ repeated self }
     {
-        let repeats = if self.repeats == 255 {
-            255
-        } else {
-            self.repeats + 1
-        };
         Request {
-            ask: self.ask,
-            call: self.call,
             countdown: COUNTDOWN,
-            repeats,
+            repeats: self.repeats.saturating_add(1),
+            ..self
         }
     }
 
@@ -62,10 +52,8 @@ impl Request {
         ensures { result ≡ waited self }
     {
         Request {
-            ask: self.ask,
-            call: self.call,
             countdown: self.countdown.saturating_sub(1),
-            repeats: self.repeats,
+            ..self
         }
     }
 
@@ -76,7 +64,7 @@ impl Request {
         Frame {
             exchange,
             call: self.call,
-            body: self.ask.body(),
+            body: self.ask.into(),
         }
     }
 }

@@ -31,10 +31,10 @@ pub enum Received {
     Closed(Ask, CallId, Reply),
 }
 
-impl Reply {
-    pub(crate) fn of(verdict: Verdict) -> Reply
-        ensures { result ≡ reply_of verdict }
-    {
+impl From<Verdict> for Reply {
+    ghost from_gives = { λ verdict reply. reply ≡ reply_of verdict };
+
+    fn from(verdict: Verdict) -> Reply {
         match verdict {
             Verdict::Granted => Reply::Granted,
             Verdict::Declined(cause) => Reply::Declined(cause),

@@ -3,9 +3,9 @@ ghost use Rattle.std.specs.Prelude.{◌≡◌, false};
 ghost use Rattle.frames.specs.Layout.{no_call};
 ghost use Rattle.signalling.specs.Carrying.{Sending};
 ghost use Rattle.terminal.specs.Asking.{content, request_checked, requested, ticked, Requesting, Ticking};
-ghost use Rattle.terminal.specs.State.{model};
 
 use super::Terminal;
+use crate::refusal::Refusal;
 use crate::request::{Request, is_pointless};
 use crate::told::Ticked;
 use frames::CallId;
@@ -23,16 +23,14 @@ fn send_request<U: Link>(up: &mut U, request: Request, exchange: bool) -> Result
 
 impl Terminal {
     fn check_request(&self, ask: Ask, call: CallId) -> Result<(), Fault>
-        ensures { result ≡ request_checked (model self.now) ask call }
+        ensures { result ≡ request_checked self.now ask call }
     {
         if self.request.is_some() {
-            return Err(Fault::in_terminal(22));
+            return Err(Refusal::RequestOpen.into());
         }
-        let Some(held) = self.table.find(call) else {
-            return Err(Fault::in_terminal(21));
-        };
+        let held = self.table.find(call).ok_or(Refusal::CallNotHeld)?;
         if is_pointless(ask, held.own) {
-            return Err(Fault::in_terminal(23));
+            return Err(Refusal::Pointless.into());
         }
         Ok(())
     }
@@ -45,8 +43,8 @@ impl Terminal {
         ask: Ask,
         call: CallId,
     ) -> Result<Option<Fault>, Fault>
-        ensures outcome { Requesting U.Link.sends (model self.old) ask call up.old up.new result }
-        ensures state { model self.new ≡ requested (model self.old) ask call }
+        ensures outcome { Requesting U.Link.sends self.old ask call up.old up.new result }
+        ensures state { self.new ≡ requested self.old ask call }
     {
         self.check_request(ask, call)?;
         let request = Request::opening(ask, call);
@@ -57,8 +55,8 @@ impl Terminal {
 
     // Counts the open request down; the 20th tick sends its frame again. That goes on until the answer comes.
     pub fn tick<U: Link>(&mut self, up: &mut U) -> Ticked
-        ensures outcome { Ticking U.Link.sends (model self.old) up.old up.new result }
-        ensures state { model self.new ≡ ticked (model self.old) }
+        ensures outcome { Ticking U.Link.sends self.old up.old up.new result }
+        ensures state { self.new ≡ ticked self.old }
     {
         let Some(request) = self.request else {
             return Ticked::Idle;

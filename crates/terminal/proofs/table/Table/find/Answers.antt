@@ -1,12 +1,10 @@
--- The call at the place is the one found.
-use Rattle.std.proofs.Common.{vec_items, sym, arith}
-use Rattle.terminal.proofs.Marks.{found, find_none}
+-- The first call that passes is the one found.
+use Rattle.std.proofs.Common.{eqb, rules, tests, ◌∙◌}
+use Rattle.std.proofs.lemmas.Iterator.{YieldsList-from_slice}
+use Rattle.std.proofs.lemmas.Iterator.Search.{find_from_yields_List}
+use Rattle.terminal.proofs.Marks.{found_is}
 use Rattle.terminal.proofs.table.Table.find.Goals as goal
 
-pub returns-then-i-len : goal.returns-then-i-len
-returns-then-i-len c =
-    found c.args.id.0 c.place_of-i.result (vec_items c.args.self.now.calls) c.index.result.now c.place_of-i.ensures (omega (arith, c.args.self.now.calls.ok.0)) c.index.ensures
-
-pub returns-else-i-len : goal.returns-else-i-len
-returns-else-i-len c =
-    sym (find_none c.args.id.0 (vec_items c.args.self.now.calls) (omega (arith, c.args.self.now.calls.ok.0, c.len.ensures, c.place_of-i.ensures)))
+pub returns : goal.returns
+returns c =
+    c.copied.ensures ∙ (find_from_yields_List (λ k. eqb k.id.0 c.args.id.0) _ _ c.find.result c.find.ensures.ran (YieldsList-from_slice c.args.self.now cc) (λ x b q k. search (rules, tests)) ∙ found_is c.args.id.0 c.args.self.now)

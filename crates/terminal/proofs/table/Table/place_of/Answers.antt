@@ -1,13 +1,10 @@
--- A turn passes a call with another identifier, or ends at the place.
-use Rattle.std.proofs.Common.{arith}
-use Rattle.terminal.proofs.Marks.{hit, miss, past}
+-- The place is that of the first call that passes.
+use Rattle.std.proofs.Common.{eqb, rules, tests}
+use Rattle.std.proofs.lemmas.Iterator.{YieldsList-from_slice}
+use Rattle.std.proofs.lemmas.Iterator.Search.{position_from_yields_List}
+use Rattle.terminal.proofs.Marks.{place_is}
 use Rattle.terminal.proofs.table.Table.place_of.Goals as goal
 
-pub returns-then-c-id : goal.returns-then-c-id
-returns-then-c-id c = omega (arith, c.loop-i.invariant, rw c.deref-c-items.ensures.value at (hit c.args.id.0 c.deref-c-items.result.now c.loop-i.i _ c.loop-i-test.true c.if-c-id.true))
-
-pub loop-i-preserved : goal.loop-i-preserved
-loop-i-preserved c = omega (arith, c.loop-i.invariant, rw c.deref-c-items.ensures.value at (miss c.args.id.0 c.deref-c-items.result.now c.loop-i.i _ c.loop-i-test.true c.if-c-id.false))
-
 pub returns : goal.returns
-returns c = omega (arith, c.loop-i.invariant, rw c.deref-c-items.ensures.value at (past c.args.id.0 c.deref-c-items.result.now c.loop-i.i c.loop-i-test.false), c.len.ensures, c.deref-c-items.ensures.len, c.loop-i.auto.i-end)
+returns c =
+    rw (place_is c.args.id.0 c.args.self.now) (position_from_yields_List (λ k. eqb k.id.0 c.args.id.0) _ _ c.position.result c.position.ensures.ran (YieldsList-from_slice c.args.self.now cc) (λ x b q k. search (rules, tests)))

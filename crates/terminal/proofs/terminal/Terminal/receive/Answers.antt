@@ -1,8 +1,10 @@
--- The law follows from what is told and left.
-use Rattle.terminal.specs.State.{model}
-use Rattle.terminal.proofs.Lawful.{receiving_lawful}
+-- The law follows from what the frame does.
+use Rattle.std.proofs.Common.{refl}
+use Rattle.terminal.proofs.Lawful.{lawful_effect}
 use Rattle.terminal.proofs.terminal.Terminal.receive.Goals as goal
 
-pub returns : goal.returns
-returns g c =
-    record { outcome = c.receive_one.ensures; law = receiving_lawful g.D.Link.takes (model c.args.self.now) c.args.down.now (model c.receive_one.new.self) c.receive_one.new.down c.receive_one.result c.args.self.now.ids c.receive_one.ensures }
+pub returns-in-Some-clause-law : goal.returns-in-Some-clause-law
+returns-in-Some-clause-law g c =
+    let m = c.args.self.now in
+    let f = c.in-Some.frame in
+    rw (c.arrive.ensures.outcome, c.arrive.ensures.state) (lawful_effect m f m.request f.body c.arrive.ensures.rising refl)
