@@ -1,6 +1,6 @@
--- What holds of a switch's state, and what a change of a record, an added, a removed and a noted one leave of it. Assumes nothing.
-use Rattle.std.proofs.Common.{◌≡◌, ℕ, ◌+◌, ◌≤◌, true, length, Some, sym, ◌∙◌, subst, arith}
-use Rattle.records.proofs.Tables.{length_change, rising_change, rising_without, channels_change, channels_without, held_change, held_without}
+-- What holds between the tables of a switch, and what a change of a record, an added, a removed and a noted one leave of it. Assumes nothing.
+use Rattle.std.proofs.Common.{◌≡◌, ℕ, ◌+◌, ◌≤◌, true, Some, sym, ◌∙◌, subst, arith}
+use Rattle.records.proofs.Tables.{rising_change, rising_without, channels_change, channels_without, held_change, held_without}
 use Rattle.records.specs.Changes.{find, change, without}
 use Rattle.records.specs.Legs.{channels}
 use Rattle.records.specs.Questions.{rising, channels_of, held_by}
@@ -8,21 +8,16 @@ use Rattle.records.specs.declared.legs.Record.{Record}
 use Rattle.switch.specs.Laws.{KeepsLimits}
 use Rattle.switch.specs.Serving.{noted}
 use Rattle.switch.specs.State.{Model, with_records, with_sessions}
-use Rattle.switch.specs.Tables.{apart, lawful, answerable, all_answerable}
+use Rattle.switch.specs.Tables.{lawful}
 use Rattle.switch.specs.declared.session.Session.{Session}
 use Rattle.switch.proofs.SoundMoves.{held_in}
-use Rattle.switch.proofs.SoundRecords.{Lawful, lawful_change, lawful_without, lawful_seats, length_without}
-use Rattle.switch.proofs.SoundSessions.{seated_noted, apart_noted, length_noted, answers_noted}
+use Rattle.switch.proofs.SoundRecords.{Lawful, lawful_change, lawful_without, lawful_seats}
+use Rattle.switch.proofs.SoundSessions.{seated_noted}
 
 pub record Sound (m : Model) : Type 0 where
-  pub few_sessions : length m.sessions ≤ 32
-  pub few_records : length m.records ≤ 64
-  pub users : apart m.sessions ≡ true
   pub ids : rising m.last m.records ≡ true
-  pub top : m.last ≤ 16383
   pub legs : lawful m.sessions m.records ≡ true
   pub counted : m.used ≡ channels_of m.records
-  pub answers : all_answerable m.sessions ≡ true
 
 -- a call from one state to the next keeps what holds, and the limits
 pub record Kept (limit : ℕ → ℕ) (m n : Model) : Type 0 where
@@ -43,14 +38,9 @@ pub kept_change : (limit : ℕ → ℕ) (m : Model) (c : ℕ) (f : Record → Re
 kept_change limit m c f r k h e id w u held =
     record {
       sound = record {
-        few_sessions = h.few_sessions;
-        few_records = omega (arith, length_change c f m.records, h.few_records);
-        users = h.users;
         ids = rising_change c f 0 m.last m.records id ∙ h.ids;
-        top = h.top;
         legs = lawful_change m.sessions c f 0 m.last m.records r h.ids e w h.legs;
         counted = omega (arith, u, h.counted, channels_change c f 0 m.last m.records r h.ids e);
-        answers = h.answers;
       };
       limits = λ l v. omega (arith, held v (l v), held_change v c f 0 m.last m.records r h.ids e);
     }
@@ -60,31 +50,21 @@ pub kept_without : (limit : ℕ → ℕ) (m : Model) (c : ℕ) (r : Record) → 
 kept_without limit m c r h e none =
     record {
       sound = record {
-        few_sessions = h.few_sessions;
-        few_records = omega (arith, length_without c m.records, h.few_records);
-        users = h.users;
         ids = rising_without c 0 m.last m.records h.ids;
-        top = h.top;
         legs = lawful_without m.sessions c m.records h.legs;
         counted = omega (arith, none, h.counted, channels_without c 0 m.last m.records r h.ids e);
-        answers = h.answers;
       };
       limits = λ l v. omega (arith, l v, held_without v c 0 m.last m.records r h.ids e);
     }
 
 -- a session noted
-pub kept_noted : (limit : ℕ → ℕ) (m : Model) (n : Session) → Sound m → answerable n.handled ≡ true → Kept limit m (with_sessions (noted n m.sessions) m)
-kept_noted limit m n h a =
+pub kept_noted : (limit : ℕ → ℕ) (m : Model) (n : Session) → Sound m → Kept limit m (with_sessions (noted n m.sessions) m)
+kept_noted limit m n h =
     record {
       sound = record {
-        few_sessions = omega (arith, length_noted n m.sessions, h.few_sessions);
-        few_records = h.few_records;
-        users = apart_noted n m.sessions ∙ h.users;
         ids = h.ids;
-        top = h.top;
         legs = lawful_seats m.sessions (noted n m.sessions) (λ v k. seated_noted v n m.sessions ∙ k) m.records h.legs;
         counted = h.counted;
-        answers = answers_noted n m.sessions a h.answers;
       };
       limits = λ w. w;
     }

@@ -1,10 +1,9 @@
 -- Opening, connecting, clearing and notifying keep what holds of a switch's state, and the limits. Assumes nothing.
-use Rattle.std.proofs.Common.{◌≡◌, ℕ, ◌+◌, ◌-◌, Bool, true, false, cond, not, ◌&&◌, ◌||◌, ltb, leb, List, [], ◌∷◌, ◌++◌, length, is_some, Some, None, Ok, Err, Option, Result, sym, refl, ap, ◌∙◌, arith, length-append}
-use Rattle.std.proofs.lemmas.Bool.{and_parts, not-true, or_parts, leb-false, ltb-false}
-use Rattle.frames.specs.Layout.{no_call}
+use Rattle.std.proofs.Common.{◌≡◌, ℕ, ◌+◌, ◌-◌, Bool, true, false, cond, not, ◌&&◌, leb, List, [], ◌∷◌, ◌++◌, is_some, Some, None, Ok, Err, Option, Result, sym, refl, ap, ◌∙◌, arith}
+use Rattle.std.proofs.lemmas.Bool.{and_parts, not-true}
 use Rattle.frames.specs.declared.content.CallId.{CallId}
 use Rattle.links.specs.Meaning.{SendAnswer}
-use Rattle.register.specs.User.{is_user, same}
+use Rattle.register.specs.User.{is_user}
 use Rattle.register.specs.declared.user.User.{User}
 use Rattle.records.proofs.Tables.{channels_added, channels_within, find_changed, held_added, rising_added}
 use Rattle.records.specs.Changes.{change, cleared, connected_call, find, for_user, hushed, is_spent, without}
@@ -19,34 +18,25 @@ use Rattle.switch.specs.Connecting.{connect_checked, connected, connects}
 use Rattle.switch.specs.Notifying.{Notifies, Notifying, spent, tells, tidied}
 use Rattle.switch.specs.Opening.{new_session, open_checked, opened, opens}
 use Rattle.switch.specs.State.{Model, with_records}
-use Rattle.switch.specs.Tables.{session}
 use Rattle.switch.specs.declared.told.Notified.{Notified}
-use Rattle.switch.proofs.Ranges.{passed}
+use Rattle.switch.proofs.Boards.{place_ok}
 use Rattle.switch.proofs.Sound.{Sound, Kept, kept_at, kept_change, kept_same, kept_then, kept_without}
 use Rattle.switch.proofs.SoundMoves.{connect_held, hush_channels, hush_held, hush_lawful, id_for, id_hushed}
 use Rattle.switch.proofs.SoundRecords.{bare_channels, change_missing, lawful_added, lawful_found, lawful_seats}
-use Rattle.switch.proofs.SoundSessions.{answers_added, apart_added, seated_more}
+use Rattle.switch.proofs.SoundSessions.{seated_more}
 
 -- opening
 pub kept_opened : (limit : ℕ → ℕ) (m : Model) (u : User) → Sound m → Kept limit m (opened m u)
-kept_opened limit m u h = go (open_checked m u) refl
+kept_opened limit m u h = go (open_checked m u)
   where
-    go : (r : Result Unit Fault) → open_checked m u ≡ r → Kept limit m (opens r m u)
-    go (Err f) e = kept_same limit m h
-    go (Ok t) e =
-        let p = passed (not (is_user u.0)) (in_switch 30) (unless (is_some (session u.0 m.sessions)) (in_switch 32) (unless (leb 32 (length m.sessions)) (in_switch 33) (Ok tt))) t e in
-        let q = passed (is_some (session u.0 m.sessions)) (in_switch 32) (unless (leb 32 (length m.sessions)) (in_switch 33) (Ok tt)) t p.1 in
-        let s = passed (leb 32 (length m.sessions)) (in_switch 33) (Ok tt) t q.1 in
+    go : (r : Result Unit Fault) → Kept limit m (opens r m u)
+    go (Err f) = kept_same limit m h
+    go (Ok t) =
         record {
           sound = record {
-            few_sessions = omega (arith, leb-false _ _ s.0, length-append m.sessions (new_session u ∷ []));
-            few_records = h.few_records;
-            users = apart_added (new_session u) m.sessions q.0 h.users;
             ids = h.ids;
-            top = h.top;
             legs = lawful_seats m.sessions (m.sessions ++ new_session u ∷ []) (λ v k. seated_more v (new_session u) m.sessions k) m.records h.legs;
             counted = h.counted;
-            answers = answers_added (new_session u) m.sessions refl h.answers;
           };
           limits = λ w. w;
         }
@@ -58,29 +48,15 @@ kept_connected limit m c a b h = go (connect_checked m c a b) refl
     go : (r : Result Unit Fault) → connect_checked m c a b ≡ r → Kept limit m (connects r m c a b)
     go (Err f) e = kept_same limit m h
     go (Ok t) e =
-        let last : Result Unit Fault = unless (not (leb (m.used + 2) m.size)) (in_switch 37) (Ok tt) in
-        let place : Result Unit Fault = unless (leb 64 (length m.records)) (in_switch 36) last in
-        let above : Result Unit Fault = unless (no_call c.0 || leb c.0 m.last) (in_switch 35) place in
-        let two : Result Unit Fault = unless (same a.0 b.0) (in_switch 34) above in
-        let p = passed (not (is_user a.0 && is_user b.0)) (in_switch 30) two t e in
-        let q = passed (same a.0 b.0) (in_switch 34) above t p.1 in
-        let s = passed (no_call c.0 || leb c.0 m.last) (in_switch 35) place t q.1 in
-        let k = passed (leb 64 (length m.records)) (in_switch 36) last t s.1 in
-        let range = or_parts (no_call c.0) (leb c.0 m.last) s.0 in
-        let high = or_parts (ltb c.0 1) (ltb 16383 c.0) range.0 in
+        let ok = place_ok m c a b (unless (not (leb (m.used + 2) m.size)) (in_switch 37) (Ok tt)) t e in
         let call = connected_call c a b in
         record {
           sound = record {
-            few_sessions = h.few_sessions;
-            few_records = omega (arith, leb-false _ _ k.0, length-append m.records (connected_call c a b ∷ []));
-            users = h.users;
-            ids = rising_added 0 m.last m.records (connected_call c a b) (leb-false _ _ range.1) h.ids;
-            top = ltb-false _ _ high.1;
-            legs = lawful_added m.sessions m.records (connected_call c a b) refl h.legs;
-            counted = omega (arith, h.counted, channels_added m.records (connected_call c a b));
-            answers = h.answers;
+            ids = rising_added 0 m.last m.records call ok.above h.ids;
+            legs = lawful_added m.sessions m.records call refl h.legs;
+            counted = omega (arith, h.counted, channels_added m.records call);
           };
-          limits = λ w v. omega (arith, w v, held_added v m.records (connected_call c a b), connect_held v c a b);
+          limits = λ w v. omega (arith, w v, held_added v m.records call, connect_held v c a b);
         }
 
 -- clearing for the network

@@ -5,6 +5,7 @@ pub mod Laws
 pub mod Making
 pub mod Notifying
 pub mod Opening
+pub mod Refusal
 pub mod Serving
 pub mod State
 pub mod Tables

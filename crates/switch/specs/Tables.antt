@@ -1,9 +1,12 @@
 -- The sessions of a switch, and what holds of its sessions and records. Assumes nothing.
-use Rattle.std.specs.Prelude.{ℕ, ◌+◌, Bool, true, false, cond, not, ◌&&◌, ◌||◌, List, [], ◌∷◌, is_some, Some, None, Option}
+use Rattle.std.specs.Prelude.{ℕ, ◌+◌, ◌≤◌, Bool, true, false, cond, not, ◌&&◌, ◌||◌, List, [], ◌∷◌, length, is_some, Some, None, Option, nat_lt}
 use Rattle.register.specs.User.{same}
-use Rattle.records.specs.Legs.{channels}
+use Rattle.records.specs.Changes.{find}
+use Rattle.records.specs.Legs.{channels, side_of}
+use Rattle.records.specs.Questions.{held_by, place}
 use Rattle.records.specs.declared.legs.Leg.{Leg}
 use Rattle.records.specs.declared.legs.Record.{Record}
+use Rattle.records.specs.declared.legs.Side.{Side}
 use Rattle.signalling.specs.Writable.{writable}
 use Rattle.switch.specs.Answer.{answer}
 use Rattle.switch.specs.declared.session.Session.{Session}
@@ -18,6 +21,22 @@ session u (s ∷ ss) = cond (same s.user.0 u) (Some s) (session u ss)
 abbrev pub session_place : ℕ → List Session → ℕ
 session_place u [] = 0
 session_place u (s ∷ ss) = cond (same s.user.0 u) 0 (session_place u ss + 1)
+
+-- the place, if he has one
+abbrev pub session_placed : ℕ → List Session → Option ℕ
+session_placed u ss = cond (nat_lt (session_place u ss) (length ss)) (Some (session_place u ss)) None
+
+-- the place of a call's record, with the side of a user who is a party of it
+abbrev pub leg_in : ℕ → Option Side → Option (ℕ × Side)
+leg_in i None = None
+leg_in i (Some s) = Some (i, s)
+
+abbrev pub side_in : ℕ → Option Record → Option Side
+side_in u None = None
+side_in u (Some r) = side_of u r
+
+abbrev pub leg_place : ℕ → ℕ → List Record → Option (ℕ × Side)
+leg_place u c rs = leg_in (place c rs) (side_in u (find c rs))
 
 -- no two sessions are one user's
 abbrev pub apart : List Session → Bool
@@ -51,3 +70,7 @@ answerable (Some h) = writable (answer false h)
 unfoldable pub all_answerable : List Session → Bool
 all_answerable [] = true
 all_answerable (s ∷ ss) = answerable s.handled && all_answerable ss
+
+-- nobody has more calls on hold than his limit
+abbrev pub WithinLimits : (ℕ → ℕ) → List Record → Type 0
+WithinLimits limit rs = (user : ℕ) → held_by user rs ≤ limit user

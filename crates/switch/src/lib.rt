@@ -4,10 +4,12 @@
 #![tactic(auto)]
 
 mod board;
+mod refusal;
 mod session;
 mod switch;
 mod told;
 
+pub use refusal::{Refusal, check_user};
 pub use session::Session;
 pub use switch::{Parts, Switch};
 pub use told::{Handled, MakeError, Notified, Served};

@@ -3,7 +3,7 @@ use crate::told::Handled;
 use register::User;
 
 // `exchange` is the bit of the last request handled, 1 at first; `handled` is what came of that, and so the last answer.
-#[derive(Clone, Copy)]
+#[derive(Clone, Copy, Debug, PartialEq, Eq)]
 pub struct Session {
     pub user: User,
     pub exchange: bool,

@@ -1,11 +1,14 @@
 // What the switch tells of serving and notifying.
 ghost use Rattle.std.specs.Prelude.{◌≡◌};
 ghost use Rattle.switch.specs.Answer.{answer};
+ghost use Rattle.switch.specs.Making.{make_words};
 ghost use Rattle.switch.specs.declared.told.MakeError.TheVariants.{Refused, NoMemory};
 
 use frames::{Body, CallId, Frame, News, Operation, Verdict};
 use records::HeldLegs;
 use std::alloc::AllocError;
+use std::error::Error;
+use std::fmt;
 use text::Fault;
 
 // A request that was carried out: the operation, its call and the verdict; or a clear, its call and the legs that were on hold.
@@ -31,11 +34,24 @@ pub enum Notified {
 }
 
 // Why no switch was made: a size that no pool has, or want of memory.
-#[derive(Drop)]
+#[derive(Debug, Drop)]
 pub enum MakeError {
     Refused(Fault),
     NoMemory(AllocError),
 }
+
+impl fmt::Display for MakeError {
+    ghost output = { make_words };
+
+    fn fmt<W: fmt::Write>(&self, f: &mut fmt::Formatter<W>) -> fmt::Result {
+        match self {
+            MakeError::Refused(fault) => write!(f, "{fault}"),
+            MakeError::NoMemory(e) => write!(f, "{e}"),
+        }
+    }
+}
+
+impl Error for MakeError {}
 
 impl From<Fault> for MakeError {
     ghost from_gives = { λ f r. r ≡ Refused f };

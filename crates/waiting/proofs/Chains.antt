@@ -1,6 +1,8 @@
 -- A line as far as it goes: one user more, never more than 33, and where the walk ends. Assumes nothing.
 use Rattle.std.proofs.Common.{◌≡◌, ℕ, zero, suc, ◌+◌, ◌-◌, ◌<◌, ◌≤◌, Bool, true, false, cond, ◌||◌, List, [], ◌∷◌, ◌++◌, length, get_or, is_some, Some, None, Contains, Option, sym, refl, ap, ◌∙◌, subst, ⊎_elim, add-one, arith}
 use Rattle.std.proofs.lemmas.List.{get_or_append_left, get_or_push, length_push}
+use Rattle.std.proofs.lemmas.List.Recursion.{same_from_clauses}
+use Rattle.std.specs.List.{list_any}
 use Rattle.std.proofs.lemmas.Bool.{both_ways, cases_lt, eqb-false, eqb-true, or_parts}
 use Rattle.records.specs.Questions.{next_in_line}
 use Rattle.records.specs.declared.legs.Record.{Record}
@@ -9,9 +11,7 @@ use Rattle.register.specs.declared.user.User.{User}
 use Rattle.switch.specs.Tables.{lawful}
 use Rattle.switch.specs.declared.session.Session.{Session}
 use Rattle.waiting.specs.Law.{Chain, Ended, LineLaw, Short}
-use Rattle.waiting.specs.Line.{carry_on, line_of, stands_in, step_by, walk, Line}
-use Rattle.waiting.specs.declared.walk.Step.{Step}
-use Rattle.waiting.specs.declared.walk.Step.TheVariants.{End, On}
+use Rattle.waiting.specs.Line.{carry_on, line_of, stands_in, step_by, walk, Line, Step, End, On}
 use Rattle.waiting.proofs.Seats.{next_seated, no_more}
 
 -- users with one number are one user
@@ -104,6 +104,14 @@ on_new (Some w) line v e = go (stands_in w.0 line) refl e
     go true t e = let z : ◌≡◌ {A = ℕ} 0 1 = cc in absurd (omega arith)
     go false t e = let s : w ≡ v = cc in (ap (λ (x : User). Some x) s, subst (λ (x : User). stands_in x.0 line ≡ false) s t)
 
+stepped : (o : Option User) (line : List User) (v : User) (b : Bool) → o ≡ Some v → stands_in v.0 line ≡ b → step_by o line ≡ cond b (End true) (On v)
+stepped o line v b e t = ap (λ (q : Option User). step_by q line) e ∙ ap (λ (x : Bool). cond x (End true) (On v)) t
+
+-- the same, where a test of any of them found him or not
+pub stepped_any : (o : Option User) (line : List User) (v : User) (b : Bool) → o ≡ Some v → list_any (λ (w : User). same w.0 v.0) line ≡ b → step_by o line ≡ cond b (End true) (On v)
+unfolding stands_in
+stepped_any o line v b e t = stepped o line v b e (same_from_clauses (stands_in v.0) (list_any (λ (w : User). same w.0 v.0)) (λ w x. same w.0 v.0 || x) refl (λ _ _. refl) (λ _ _. refl) line ∙ t)
+
 -- where 33 stand in a line, it ends, and it is a ring if anybody is next
 pub walk_full : (n : ℕ) (rs : List Record) (u : User) (line : List User) (last : User) → Short rs → Chain rs u line → Last line last → length line ≡ 33 → walk (suc n) rs line last ≡ record { users = line; ring = is_some (next_in_line last.0 rs) }
 walk_full n rs u line last sh chain ends long = go (next_in_line last.0 rs) refl
@@ -113,7 +121,7 @@ walk_full n rs u line last sh chain ends long = go (next_in_line last.0 rs) refl
     go (Some v) e = at (stands_in v.0 line) refl
       where
         at : (b : Bool) → stands_in v.0 line ≡ b → walk (suc n) rs line last ≡ record { users = line; ring = true }
-        at true t = walk_end n rs line last true (ap (λ (o : Option User). step_by o line) e ∙ ap (λ (b : Bool). cond b (End true) (On v)) t)
+        at true t = walk_end n rs line last true (stepped _ line v true e t)
         at false t = absurd (omega (arith, sh u (line ++ v ∷ []) (chain_more rs u line last v chain ends e t), length_push line v))
 
 -- the law of what the walk comes to

@@ -1,4 +1,3 @@
 mod Chains
 mod Places
 mod Seats
-mod Turns

@@ -11,9 +11,8 @@ use Rattle.text.proofs.Checks.{passed}
 use Rattle.text.specs.Fault.{after, in_switch, unless}
 use Rattle.text.specs.declared.fault.Fault.{Fault}
 use Rattle.waiting.specs.Law.{Chain, LineLaw, Short}
-use Rattle.waiting.specs.Line.{checks, line_checked, line_of, line_told, line_written, step_by, tells, walk, written, Line}
+use Rattle.waiting.specs.Line.{checks, line_checked, line_of, line_told, line_written, step_by, tells, walk, written, Line, End, On}
 use Rattle.waiting.specs.declared.told.WaitingLine.{WaitingLine}
-use Rattle.waiting.specs.declared.walk.Step.TheVariants.{End, On}
 use Rattle.waiting.proofs.Chains.{chain_more, chain_one, last_more, lawful_line, on_new, walk_end, walk_full, walk_on, Last}
 
 -- so many places have the line so far, from which the walk comes to the whole line, and the others are as they were
@@ -28,13 +27,13 @@ pub begun : (rs : List Record) (u : User) (line : List User) → 33 ≤ length l
 begun rs u [] h = absurd (omega arith)
 begun rs u (x ∷ xs) h = (refl, chain_one rs u, λ d. refl, refl)
 
-pub more : (rs : List Record) (u : User) (k : ℕ) (line : List User) (last : User) (before : List User) (v : User) → Walking rs u k line last before → k < 33 → k < length line → On v ≡ step_by (next_in_line last.0 rs) (take k line) → Walking rs u (k + 1) (set line k v) v before
+pub more : (rs : List Record) (u : User) (k : ℕ) (line : List User) (last : User) (before : List User) (v : User) → Walking rs u k line last before → k < 33 → k < length line → step_by (next_in_line last.0 rs) (take k line) ≡ On v → Walking rs u (k + 1) (set line k v) v before
 more rs u k line last before v w small lt e =
     let steps : 34 - k ≡ suc (34 - (k + 1)) = omega arith in
     let front : take (k + 1) (set line k v) ≡ take k line ++ v ∷ [] = take_more_set line k v lt in
-    let new = on_new (next_in_line last.0 rs) (take k line) v (sym e) in (
+    let new = on_new (next_in_line last.0 rs) (take k line) v e in (
       ap (λ (l : List User). walk (34 - (k + 1)) rs l v) front
-          ∙ sym (walk_on (34 - (k + 1)) rs (take k line) last v (sym e))
+          ∙ sym (walk_on (34 - (k + 1)) rs (take k line) last v e)
           ∙ sym (ap (λ (n : ℕ). walk n rs (take k line) last) steps)
           ∙ w.0,
       subst (λ (l : List User). Chain rs u l) (sym front) (chain_more rs u (take k line) last v w.1 w.2 new.0 new.1),
@@ -68,10 +67,10 @@ kept l k r line before u pos le e rest =
 abbrev pub Done : Line → WaitingLine → List User → List User → Type 0
 Done l t line before = (t ≡ tells l) × (line ≡ written l before)
 
-pub at_end : (rs : List Record) (u : User) (k : ℕ) (line : List User) (last : User) (out before : List User) (r : Bool) → Walking rs u k line last (set before 0 u) → 1 ≤ k → k < 33 → k ≤ length line → End r ≡ step_by (next_in_line last.0 rs) (take k line) → out ≡ line → Done (line_of rs u) (record { length = k; ring = r }) out before
-at_end rs u k line last out before r w pos small le e same =
-    let whole = ended rs u k line last (set before 0 u) r w small (sym e) in
-    (told (line_of rs u) k r line le whole, same ∙ kept (line_of rs u) k r line before u pos le whole w.3)
+pub at_end : (rs : List Record) (u : User) (k : ℕ) (line : List User) (last : User) (before : List User) (r : Bool) → Walking rs u k line last (set before 0 u) → 1 ≤ k → k < 33 → k ≤ length line → step_by (next_in_line last.0 rs) (take k line) ≡ End r → Done (line_of rs u) (record { length = k; ring = r }) line before
+at_end rs u k line last before r w pos small le e =
+    let whole = ended rs u k line last (set before 0 u) r w small e in
+    (told (line_of rs u) k r line le whole, kept (line_of rs u) k r line before u pos le whole w.3)
 
 pub at_full : (rs : List Record) (u : User) (k : ℕ) (line : List User) (last : User) (before : List User) (r : Bool) (o : Option User) → Short rs → Walking rs u k line last (set before 0 u) → k ≡ 33 → 33 ≤ length line → r ≡ is_some o → o ≡ next_in_line last.0 rs → Done (line_of rs u) (record { length = 33; ring = r }) line before
 at_full rs u k line last before r o sh w is le test found =

@@ -1,5 +1,5 @@
 -- The waiting line of a user, by a walk from each to the next. Assumes nothing.
-use Rattle.std.specs.Prelude.{ℕ, zero, suc, Bool, true, false, cond, not, ◌||◌, List, [], ◌∷◌, ◌++◌, length, drop, Some, None, Ok, Err, Option, Result, nat_lt, slice_set}
+use Rattle.std.specs.Prelude.{ℕ, zero, suc, Bool, true, false, cond, not, ◌||◌, List, [], ◌∷◌, ◌++◌, length, drop, Some, None, Ok, Err, Option, Result, nat_lt}
 use Rattle.records.specs.Questions.{next_in_line}
 use Rattle.records.specs.declared.legs.Record.{Record}
 use Rattle.register.specs.User.{is_user, same}
@@ -8,8 +8,6 @@ use Rattle.switch.specs.State.{Model}
 use Rattle.text.specs.Fault.{after, in_switch, unless}
 use Rattle.text.specs.declared.fault.Fault.{Fault}
 use Rattle.waiting.specs.declared.told.WaitingLine.{WaitingLine}
-use Rattle.waiting.specs.declared.walk.Step.{Step}
-use Rattle.waiting.specs.declared.walk.Step.TheVariants.{End, On}
 
 -- a line, and whether it is a ring
 pub record Line : Type 0 where
@@ -21,7 +19,12 @@ unfoldable pub stands_in : ℕ → List User → Bool
 stands_in u [] = false
 stands_in u (v ∷ vs) = same v.0 u || stands_in u vs
 
--- what comes after the last user of a line, by who is next: it ends, as a ring if that one stands in it, or goes on
+-- what comes after the last user of a line: its end, as a ring or not, or one more user
+pub data Step : Type 0 where
+  End : Bool → Step
+  On : User → Step
+
+-- by who is next: it ends, as a ring if that one stands in it, or goes on
 abbrev pub step_by : Option User → List User → Step
 step_by None line = End false
 step_by (Some v) line = cond (stands_in v.0 line) (End true) (On v)
@@ -34,11 +37,6 @@ carry_on (On v) line on = on v
 unfoldable pub walk : ℕ → List Record → List User → User → Line
 walk zero rs line last = record { users = line; ring = false }
 walk (suc n) rs line last = carry_on (step_by (next_in_line last.0 rs) line) line (λ v. walk n rs (line ++ v ∷ []) v)
-
--- one more user at a place
-abbrev pub placed : Step → ℕ → List User → List User
-placed (End r) i line = line
-placed (On v) i line = slice_set line i v
 
 -- the line of a user; no line takes more than 33 steps
 abbrev pub line_of : List Record → User → Line

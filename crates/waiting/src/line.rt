@@ -7,18 +7,16 @@ ghost use Rattle.waiting.specs.Line.{checks, line_checked, line_told, line_writt
 use crate::told::WaitingLine;
 use crate::walk::{LONGEST, walk};
 use register::{Register, User};
-use switch::Switch;
+use switch::{Refusal, Switch, check_user};
 use text::Fault;
 
 // The checks before a line is told: a user out of range, too few places.
 fn check(user: User, places: usize) -> Result<(), Fault>
     ensures { result ≡ checks user places }
 {
-    if !user.is_user() {
-        return Err(Fault::in_switch(30));
-    }
+    check_user(user)?;
     if places < LONGEST {
-        return Err(Fault::in_switch(44));
+        return Err(Refusal::FewPlaces.into());
     }
     Ok(())
 }

@@ -1,38 +1,44 @@
 // The call records of a board: connecting a call, and where users stand.
-ghost use Rattle.std.specs.Prelude.{◌≡◌, ◌≤◌, vec_capacity};
+ghost use Rattle.std.specs.Prelude.{◌≡◌};
 ghost use Rattle.records.specs.Changes.{find};
-ghost use Rattle.records.specs.Questions.{place};
+ghost use Rattle.records.specs.Questions.{placed};
 ghost use Rattle.switch.specs.Connecting.{connect_checked, connected, place_checked};
 ghost use Rattle.switch.specs.Serving.{standing_at};
 ghost use Rattle.switch.specs.State.{model};
+ghost use Rattle.switch.specs.Tables.{leg_place};
 
-use crate::board::Board;
+use crate::board::{Board, RECORDS};
+use crate::refusal::{Refusal, check_user};
 use frames::CallId;
-use records::{Record, Standing, place_of};
+use records::{Record, Side, Standing, place_of};
 use register::User;
 use text::Fault;
 
 impl Board {
-    // The place of a call's record, or the number of records.
-    pub(super) fn record_place(&self, call: CallId) -> usize
-        ensures { result ≡ place call.0 self.now.records.items }
+    pub(super) fn record_place(&self, call: CallId) -> Option<usize>
+        ensures { result ≡ placed call.0 self.now.records.items }
     {
         place_of(self.records.as_slice(), call)
     }
 
-    // The record of a call.
+    // The place of a call's record, and the side of a user who is a party of it.
+    pub(super) fn leg_place(&self, user: User, call: CallId) -> Option<(usize, Side)>
+        ensures { result ≡ leg_place user.0 call.0 self.now.records.items }
+    {
+        let i = self.record_place(call)?;
+        let side = self.records[i].side_of(user)?;
+        Some((i, side))
+    }
+
     pub(super) fn record_of(&self, call: CallId) -> Option<Record>
         ensures { result ≡ find call.0 self.now.records.items }
     {
-        let i = self.record_place(call);
-        if i < self.records.len() {
-            Some(self.records[i])
-        } else {
-            None
-        }
+        self.records
+            .iter()
+            .find(|record| record.id == call)
+            .copied()
     }
 
-    // Where a user stands in a call.
     pub(super) fn standing(&self, user: User, call: CallId) -> Standing
         ensures { result ≡ standing_at (model self.now) user.0 call.0 }
     {
@@ -45,33 +51,27 @@ impl Board {
     fn check_place(&self, call: CallId, first: User, second: User) -> Result<(), Fault>
         ensures { result ≡ place_checked (model self.now) call first second }
     {
-        if !first.is_user() || !second.is_user() {
-            return Err(Fault::in_switch(30));
+        check_user(first)?;
+        check_user(second)?;
+        if first == second {
+            return Err(Refusal::OneUserTwice.into());
         }
-        if first.same(second) {
-            return Err(Fault::in_switch(34));
+        if !call.is_in_range() || call.0 <= self.last {
+            return Err(Refusal::NoNewIdentifier.into());
         }
-        if call.0 < 1 || call.0 > 16_383 || call.0 <= self.last {
-            return Err(Fault::in_switch(35));
-        }
-        if self.records.len() >= 64 {
-            return Err(Fault::in_switch(36));
+        if self.records.len() >= RECORDS {
+            return Err(Refusal::RecordsFull.into());
         }
         Ok(())
     }
 
-    // Connects a call.
     pub(crate) fn connect(&mut self, call: CallId, first: User, second: User) -> Result<(), Fault>
-        requires { 64 ≤ vec_capacity self.old.records }
         ensures outcome { result ≡ connect_checked (model self.old) call first second }
         ensures state { model self.new ≡ connected (model self.old) call first second }
-        ensures seats { vec_capacity self.new.sessions ≡ vec_capacity self.old.sessions }
-        ensures room { vec_capacity self.new.records ≡ vec_capacity self.old.records }
     {
         self.check_place(call, first, second)?;
-        let Some(record) = Record::connect(call, first, second, &mut self.pool) else {
-            return Err(Fault::in_switch(37));
-        };
+        let connected = Record::connect(call, first, second, &mut self.pool);
+        let record = connected.ok_or(Refusal::NoChannels)?;
         self.records.push_reserved(record);
         self.last = call.0;
         Ok(())

@@ -1,12 +1,12 @@
 // Clearing calls.
-ghost use Rattle.std.specs.Prelude.{◌≡◌, true, vec_capacity};
+ghost use Rattle.std.specs.Prelude.{◌≡◌, true};
 ghost use Rattle.records.specs.Changes.{cleared, cleared_by, find, for_user};
-ghost use Rattle.records.specs.Questions.{rising};
 ghost use Rattle.switch.specs.Clearing.{clear_told, clears, freeing, legs_in, party_clears, party_legs, takes_part};
 ghost use Rattle.switch.specs.Serving.{standing_at};
 ghost use Rattle.switch.specs.State.{model};
 
 use crate::board::Board;
+use crate::refusal::Refusal;
 use frames::CallId;
 use records::{HeldLegs, Standing};
 use register::User;
@@ -15,34 +15,19 @@ use text::Fault;
 impl Board {
     // Ends a call, if it is there: both parties have the news of it.
     fn end(&mut self, call: CallId)
-        requires { rising self.old.last self.old.records.items ≡ true }
         ensures state { model self.new ≡ freeing cleared call.0 (model self.old) }
-        ensures seats { vec_capacity self.new.sessions ≡ vec_capacity self.old.sessions }
-        ensures room { vec_capacity self.new.records ≡ vec_capacity self.old.records }
     {
-        let i = self.record_place(call);
-        if i < self.records.len() {
-            let mut record = self.records[i];
-            record.clear(&mut self.pool);
-            self.records[i] = record;
+        if let Some(i) = self.record_place(call) {
+            self.records[i].clear(&mut self.pool);
         }
     }
 
-    // Ends a call for a party of it.
     fn end_for(&mut self, user: User, call: CallId)
-        requires ids { rising self.old.last self.old.records.items ≡ true }
         requires party { takes_part (standing_at (model self.old) user.0 call.0) ≡ true }
         ensures state { model self.new ≡ freeing (for_user cleared_by user.0) call.0 (model self.old) }
-        ensures seats { vec_capacity self.new.sessions ≡ vec_capacity self.old.sessions }
-        ensures room { vec_capacity self.new.records ≡ vec_capacity self.old.records }
     {
-        let i = self.record_place(call);
-        if i < self.records.len() {
-            let mut record = self.records[i];
-            if let Some(side) = record.side_of(user) {
-                record.clear_by(side, &mut self.pool);
-                self.records[i] = record;
-            }
+        if let Some((i, side)) = self.leg_place(user, call) {
+            self.records[i].clear_by(side, &mut self.pool);
         }
     }
 
@@ -58,36 +43,30 @@ impl Board {
 
     // Clears a call for a user; of a call not there it does nothing, and neither leg was on hold.
     pub(super) fn clear_for(&mut self, user: User, call: CallId) -> HeldLegs
-        requires { rising self.old.last self.old.records.items ≡ true }
         ensures outcome { result ≡ party_legs (standing_at (model self.old) user.0 call.0) (find call.0 self.old.records.items) }
         ensures state { model self.new ≡ party_clears (standing_at (model self.old) user.0 call.0) user.0 call.0 (model self.old) }
-        ensures seats { vec_capacity self.new.sessions ≡ vec_capacity self.old.sessions }
-        ensures room { vec_capacity self.new.records ≡ vec_capacity self.old.records }
     {
-        let held = self.legs_of(call);
         match self.standing(user, call) {
-            Standing::Absent => return HeldLegs::Neither,
-            Standing::Talking => self.end_for(user, call),
-            Standing::OnHold => self.end_for(user, call),
+            Standing::Absent => HeldLegs::Neither,
+            Standing::Talking | Standing::OnHold => {
+                let held = self.legs_of(call);
+                self.end_for(user, call);
+                held
+            }
         }
-        held
     }
 
     // Clears a call for the network; 38 for one that is not live.
     pub(crate) fn clear(&mut self, call: CallId) -> Result<HeldLegs, Fault>
-        requires { rising self.old.last self.old.records.items ≡ true }
         ensures outcome { result ≡ clear_told (model self.old) call }
         ensures state { model self.new ≡ clears (model self.old) call }
-        ensures seats { vec_capacity self.new.sessions ≡ vec_capacity self.old.sessions }
-        ensures room { vec_capacity self.new.records ≡ vec_capacity self.old.records }
     {
-        let Some(record) = self.record_of(call) else {
-            return Err(Fault::in_switch(38));
-        };
-        if !record.live {
-            return Err(Fault::in_switch(38));
+        match self.record_of(call) {
+            Some(record) if record.live => {
+                self.end(call);
+                Ok(record.held_legs())
+            }
+            _ => Err(Refusal::NotLive.into()),
         }
-        self.end(call);
-        Ok(record.held_legs())
     }
 }

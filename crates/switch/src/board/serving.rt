@@ -1,14 +1,14 @@
 // Serving one frame of a user.
-ghost use Rattle.std.specs.Prelude.{◌≡◌, true, false, Some, vec_capacity};
+ghost use Rattle.std.specs.Prelude.{◌≡◌, true, false, Some};
 ghost use Rattle.frames.specs.Layout.{no_call};
-ghost use Rattle.records.specs.Questions.{rising};
 ghost use Rattle.signalling.specs.Carrying.{Telling};
 ghost use Rattle.switch.specs.Serving.{Acts, Serving, effect};
 ghost use Rattle.switch.specs.Answer.{answer};
 ghost use Rattle.switch.specs.State.{model};
-ghost use Rattle.switch.specs.Tables.{all_answerable, answerable, apart};
+ghost use Rattle.switch.specs.Tables.{answerable};
 
 use crate::board::Board;
+use crate::refusal::Refusal;
 use crate::session::Session;
 use crate::told::{Handled, Served};
 use frames::Frame;
@@ -36,21 +36,13 @@ impl Board {
         frame: Frame,
         down: &mut D,
     ) -> Result<Served, Fault>
-        requires ids { rising self.old.last self.old.records.items ≡ true }
-        requires users { apart self.old.sessions.items ≡ true }
         requires call { no_call frame.call.0 ≡ false }
         requires kept { answerable session.handled ≡ true }
         ensures outcome { Acts D.Link.sends (effect limit (model self.old) user session frame) frame.exchange (model self.old) (model self.new) down.old down.new result }
-        ensures seats { vec_capacity self.new.sessions ≡ vec_capacity self.old.sessions }
-        ensures room { vec_capacity self.new.records ≡ vec_capacity self.old.records }
     {
-        let Some(ask) = Ask::in_body(frame.body) else {
-            return Err(Fault::in_switch(39));
-        };
+        let ask = Ask::in_body(frame.body).ok_or(Refusal::NoRequest)?;
         if frame.exchange == session.exchange {
-            let Some(handled) = session.handled else {
-                return Err(Fault::in_switch(40));
-            };
+            let handled = session.handled.ok_or(Refusal::NothingToRepeat)?;
             let fault = send_answer(handled, frame.exchange, down);
             return Ok(Served::Repeat(handled, fault));
         }
@@ -60,7 +52,6 @@ impl Board {
         Ok(Served::Fresh(handled, fault))
     }
 
-    // Serves one frame of a user, with his limit.
     pub(crate) fn serve<U: Link, D: Link>(
         &mut self,
         limit: u8,
@@ -68,12 +59,7 @@ impl Board {
         up: &mut U,
         down: &mut D,
     ) -> Result<Served, Fault>
-        requires ids { rising self.old.last self.old.records.items ≡ true }
-        requires users { apart self.old.sessions.items ≡ true }
-        requires kept { all_answerable self.old.sessions.items ≡ true }
         ensures outcome { Serving U.Link.takes D.Link.sends limit user (model self.old) (model self.new) up.old up.new down.old down.new result }
-        ensures seats { vec_capacity self.new.sessions ≡ vec_capacity self.old.sessions }
-        ensures room { vec_capacity self.new.records ≡ vec_capacity self.old.records }
     {
         let session = self.check_serve(user)?;
         let Some(frame) = pull(up)? else {

@@ -2,7 +2,6 @@
 ghost use Rattle.std.specs.Prelude.{◌≡◌};
 ghost use Rattle.switch.specs.Clearing.{clear_told, clears};
 ghost use Rattle.switch.specs.Connecting.{connect_checked, connected};
-ghost use Rattle.switch.specs.Laws.{KeepsLimits};
 ghost use Rattle.switch.specs.Notifying.{Notifying};
 ghost use Rattle.switch.specs.Opening.{open_checked, opened};
 ghost use Rattle.switch.specs.Serving.{Serving};
@@ -29,7 +28,6 @@ impl<R: Register> Switch<R> {
         ensures outcome { result ≡ open_checked (state self.old) user }
         ensures state { state self.new ≡ opened (state self.old) user }
         ensures register { self.new.register ≡ self.old.register }
-        ensures limits { KeepsLimits (R.Register.limit self.old.register) (state self.old) (state self.new) }
     {
         self.board.open_session(user)
     }
@@ -41,7 +39,6 @@ impl<R: Register> Switch<R> {
         ensures outcome { result ≡ connect_checked (state self.old) call first second }
         ensures state { state self.new ≡ connected (state self.old) call first second }
         ensures register { self.new.register ≡ self.old.register }
-        ensures limits { KeepsLimits (R.Register.limit self.old.register) (state self.old) (state self.new) }
     {
         self.board.connect(call, first, second)
     }
@@ -57,7 +54,6 @@ impl<R: Register> Switch<R> {
     ) -> Result<Served, Fault>
         ensures outcome { Serving U.Link.takes D.Link.sends (R.Register.limit self.old.register user.0) user (state self.old) (state self.new) up.old up.new down.old down.new result }
         ensures register { self.new.register ≡ self.old.register }
-        ensures limits { KeepsLimits (R.Register.limit self.old.register) (state self.old) (state self.new) }
     {
         let limit = self.limit_of(user);
         self.board.serve(limit, user, up, down)
@@ -68,7 +64,6 @@ impl<R: Register> Switch<R> {
     pub fn notify<D: Link>(&mut self, user: User, down: &mut D) -> Result<Notified, Fault>
         ensures outcome { Notifying D.Link.sends user (state self.old) (state self.new) down.old down.new result }
         ensures register { self.new.register ≡ self.old.register }
-        ensures limits { KeepsLimits (R.Register.limit self.old.register) (state self.old) (state self.new) }
     {
         self.board.notify(user, down)
     }
@@ -79,7 +74,6 @@ impl<R: Register> Switch<R> {
         ensures outcome { result ≡ clear_told (state self.old) call }
         ensures state { state self.new ≡ clears (state self.old) call }
         ensures register { self.new.register ≡ self.old.register }
-        ensures limits { KeepsLimits (R.Register.limit self.old.register) (state self.old) (state self.new) }
     {
         self.board.clear(call)
     }

@@ -4,7 +4,7 @@ ghost use Rattle.switch.specs.Making.{MadeParts};
 ghost use Rattle.switch.specs.State.{fresh, model, state};
 
 use super::{Parts, Switch};
-use crate::board::Board;
+use crate::board::{Board, RECORDS, SESSIONS};
 use crate::told::MakeError;
 use pool::Pool;
 use register::Register;
@@ -13,12 +13,13 @@ use std::alloc::Global;
 impl Parts {
     // A pool of so many channels, none of them in use, and memory for 32 sessions and 64 records.
     // Fault 53 for a size that is not 1 to 128; then want of memory.
+    #[tactic(auto, unfolding(crate::specs::Tables::all_answerable))]
     pub fn new(heap: Global, channels: u8) -> Result<Parts, MakeError>
         ensures { MadeParts channels result }
     {
         let pool = Pool::new(channels)?;
-        let sessions = Vec::with_capacity(heap, 32)?;
-        let records = Vec::with_capacity(heap, 64)?;
+        let sessions = Vec::with_capacity(heap, SESSIONS)?;
+        let records = Vec::with_capacity(heap, RECORDS)?;
         Ok(Parts {
             board: Board {
                 pool,

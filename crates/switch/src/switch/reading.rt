@@ -1,6 +1,7 @@
 // What a switch shows of its state.
 ghost use Rattle.std.specs.Prelude.{◌≡◌, ◌≤◌, true, length};
 ghost use Rattle.records.specs.Questions.{rising};
+ghost use Rattle.switch.specs.Laws.{Within};
 ghost use Rattle.switch.specs.State.{state};
 ghost use Rattle.switch.specs.Tables.{apart, lawful, legs_not_on_hold};
 
@@ -19,12 +20,14 @@ impl<R: Register> Switch<R> {
         self.board.sessions.as_slice()
     }
 
-    // The records, at most 64, in rising identifiers; a leg on hold is a user's with a session, and a cleared call has no channel.
+    // The records, at most 64, in rising identifiers; a leg on hold is a user's with a session, a cleared call has no channel, and nobody
+    // has more calls on hold than his limit.
     pub fn records(&self) -> &[Record]
         ensures records { result.now ≡ (state self.now).records }
         ensures few { length result.now ≤ 64 }
         ensures rising { rising (state self.now).last result.now ≡ true }
         ensures lawful { lawful (state self.now).sessions result.now ≡ true }
+        ensures limits { Within (R.Register.limit self.now.register) (state self.now) }
     {
         self.board.records.as_slice()
     }

@@ -10,11 +10,11 @@ walk-requires g c =
     let me = c.args.switch.now in
     record {
       places = enough c.args.user (length c.args.line.now) c.in_ok-check.field-0 c.in_ok-check.ensures;
-      short = short (state me).sessions c.records.result.now c.records.ensures.lawful (omega (arith, me.sessions, me.board.sessions.ok.0));
+      short = short (state me).sessions c.records.result.now c.records.ensures.lawful (omega (arith, me.board.few_sessions, me.board.sessions.ok.0));
     }
 
 pub returns : goal.returns
 returns g c =
     let me = c.args.switch.now in
-    let told = promise (state me) c.records.result.now c.args.user (length c.args.line.now) c.in_ok-check.field-0 c.walk.result c.walk.new.line c.args.line.now c.records.ensures.records c.in_ok-check.ensures (short (state me).sessions c.records.result.now c.records.ensures.lawful (omega (arith, me.sessions, me.board.sessions.ok.0))) c.walk.ensures.outcome c.walk.ensures.after in
+    let told = promise (state me) c.records.result.now c.args.user (length c.args.line.now) c.in_ok-check.field-0 c.walk.result c.walk.new.line c.args.line.now c.records.ensures.records c.in_ok-check.ensures (short (state me).sessions c.records.result.now c.records.ensures.lawful (omega (arith, me.board.few_sessions, me.board.sessions.ok.0))) c.walk.ensures.outcome c.walk.ensures.after in
     record { outcome = told.outcome; after = told.places; law = told.law }

@@ -1,17 +1,22 @@
 -- The record written at its place is the call that ended.
-use Rattle.std.proofs.Common.{refl, arith}
+use Rattle.std.proofs.Common.{refl, sym, ◌∙◌}
+use Rattle.records.proofs.Tables.{placed_none}
 use Rattle.records.specs.Changes.{cleared}
 use Rattle.switch.specs.State.{model}
-use Rattle.switch.proofs.Boards.{At, ended_at, ended_nowhere}
+use Rattle.switch.proofs.Boards.{changed, ended_at, ended_nowhere, there}
 use Rattle.switch.proofs.board.Board.end.Goals as goal
 
-pub returns-then-i-len : goal.returns-then-i-len
-returns-then-i-len c =
+pub invariant_of-self : goal.invariant_of-self
+invariant_of-self c =
     let me = c.args.self.now in
-    let at : At (model me) c.args.call.0 c.record_place-i.result c.index.result.now = record { ids = c.requires; place_is = c.record_place-i.ensures; within = omega (arith, me.records.ok.0, c.len.ensures); value = c.index.ensures } in
-    record { state = ended_at (model me) c.args.call.0 c.record_place-i.result _ _ cleared c.index.result.now c.clear.new.self at c.clear.ensures.record c.clear.ensures.used c.clear.ensures.size; seats = refl; room = refl }
+    let at = there me c.args.call.0 c.in-Some.i c.index_mut.result.now c.in-Some.ensures c.index_mut.ensures.value in
+    changed me c.args.call.0 c.in-Some.i cleared c.index_mut.result.now c.clear.new.self at (λ _. refl) c.clear.ensures.record
 
-pub returns-else-i-len : goal.returns-else-i-len
-returns-else-i-len c =
+pub returns-in-Some : goal.returns-in-Some
+returns-in-Some c =
     let me = c.args.self.now in
-    record { state = ended_nowhere (model me) c.args.call.0 cleared (omega (arith, me.records.ok.0, c.len.ensures, c.record_place-i.ensures)); seats = refl; room = refl }
+    let at = there me c.args.call.0 c.in-Some.i c.index_mut.result.now c.in-Some.ensures c.index_mut.ensures.value in
+    record { state = ended_at (model me) c.args.call.0 c.in-Some.i _ _ cleared c.index_mut.result.now c.clear.new.self at c.clear.ensures.record c.clear.ensures.used c.clear.ensures.size }
+
+pub returns-in_default : goal.returns-in_default
+returns-in_default c = record { state = ended_nowhere (model c.args.self.now) c.args.call.0 cleared (placed_none _ _ (sym c.record_place.ensures ∙ c.in_default.is)) }

@@ -10,4 +10,4 @@ returns c =
     let me = c.args.self.now in
     let u = c.args.user.0 in
     let best = subst (λ rs. (last : ℕ) → rising last rs ≡ true → Best u rs c.next_notice.result) c.as_slice.ensures.value c.next_notice.ensures.best in
-    record { choice = c.next_notice.ensures.choice ∙ ap (next_notice u) c.as_slice.ensures.value; range = sendable u me.last (vec_items me.records) c.next_notice.result c.requires.ids c.requires.top (best me.last c.requires.ids) }
+    record { choice = c.next_notice.ensures.choice ∙ ap (next_notice u) c.as_slice.ensures.value; range = sendable u me.last (vec_items me.records) c.next_notice.result me.ids me.top (best me.last me.ids) }

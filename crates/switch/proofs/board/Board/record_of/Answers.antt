@@ -1,11 +1,18 @@
--- The record at the place is the one found.
-use Rattle.std.proofs.Common.{vec_items, sym, arith}
-use Rattle.records.proofs.Tables.{found, find_none}
+-- The first record of the call, by the clauses of both searches.
+use Rattle.std.proofs.Common.{eqb, cond, vec_items, Some, refl, ◌∙◌, rules, tests}
+use Rattle.std.proofs.lemmas.Iterator.{YieldsList-from_slice}
+use Rattle.std.proofs.lemmas.Iterator.Search.{find_from_yields_List}
+use Rattle.std.proofs.lemmas.List.Recursion.{same_from_clauses}
+use Rattle.std.specs.List as list
+use Rattle.records.specs.Changes.{find}
+use Rattle.records.specs.declared.legs.Record.{Record}
 use Rattle.switch.proofs.board.Board.record_of.Goals as goal
 
-pub returns-then-i-len : goal.returns-then-i-len
-returns-then-i-len c =
-    sym (found c.args.call.0 c.record_place-i.result (vec_items c.args.self.now.records) c.index.result.now c.record_place-i.ensures (omega (arith, c.args.self.now.records.ok.0)) c.index.ensures)
-
-pub returns-else-i-len : goal.returns-else-i-len
-returns-else-i-len c = sym (find_none c.args.call.0 (vec_items c.args.self.now.records) (omega (arith, c.args.self.now.records.ok.0)))
+pub returns : goal.returns
+unfolding find
+returns c =
+    let call = c.args.call.0 in
+    let rs = vec_items c.args.self.now.records in
+    let found = find_from_yields_List (λ (r : Record). eqb r.id.0 call) _ _ c.find.result c.find.ensures.ran (YieldsList-from_slice rs cc) (λ x b q k. search (rules, tests)) in
+    let same = same_from_clauses (list.find (λ (r : Record). eqb r.id.0 call)) (find call) (λ r o. cond (eqb r.id.0 call) (Some r) o) refl (λ _ _. refl) (λ _ _. refl) rs in
+    c.copied.ensures ∙ found ∙ same

@@ -11,4 +11,4 @@ respond-requires g c =
     let me = c.args.self.now in
     let takes = g.U.Link.takes in
     let pulling = subst (λ o. Pulling takes c.args.up.now c.pull.new.link (Ok o)) c.in-Some.is c.in_ok-frame.ensures in
-    record { ids = c.requires.ids; users = c.requires.users; call = pulled_call takes c.args.up.now c.pull.new.link c.in-Some.frame pulling; kept = served_kept (model me) c.args.user c.in_ok-session.session c.requires.kept c.in_ok-session.ensures }
+    record { call = pulled_call takes c.args.up.now c.pull.new.link c.in-Some.frame pulling; kept = served_kept (model me) c.args.user c.in_ok-session.session me.answers c.in_ok-session.ensures }

@@ -1,11 +1,18 @@
--- The session at the place is the one found.
-use Rattle.std.proofs.Common.{vec_items, sym, arith}
-use Rattle.switch.proofs.Sessions.{session_found, session_none}
+-- The first session of the user, by the clauses of both searches.
+use Rattle.std.proofs.Common.{eqb, cond, vec_items, Some, refl, ◌∙◌, rules, tests}
+use Rattle.std.proofs.lemmas.Iterator.{YieldsList-from_slice}
+use Rattle.std.proofs.lemmas.Iterator.Search.{find_from_yields_List}
+use Rattle.std.proofs.lemmas.List.Recursion.{same_from_clauses}
+use Rattle.std.specs.List as list
+use Rattle.switch.specs.Tables.{session}
+use Rattle.switch.specs.declared.session.Session.{Session}
 use Rattle.switch.proofs.board.Board.session_of.Goals as goal
 
-pub returns-then-i-len : goal.returns-then-i-len
-returns-then-i-len c =
-    sym (session_found c.args.user.0 c.session_place-i.result (vec_items c.args.self.now.sessions) c.index.result.now c.session_place-i.ensures (omega (arith, c.args.self.now.sessions.ok.0)) c.index.ensures)
-
-pub returns-else-i-len : goal.returns-else-i-len
-returns-else-i-len c = sym (session_none c.args.user.0 (vec_items c.args.self.now.sessions) (omega (arith, c.args.self.now.sessions.ok.0)))
+pub returns : goal.returns
+unfolding session
+returns c =
+    let user = c.args.user.0 in
+    let ss = vec_items c.args.self.now.sessions in
+    let found = find_from_yields_List (λ (s : Session). eqb s.user.0 user) _ _ c.find.result c.find.ensures.ran (YieldsList-from_slice ss cc) (λ x b q k. search (rules, tests)) in
+    let same = same_from_clauses (list.find (λ (s : Session). eqb s.user.0 user)) (session user) (λ s o. cond (eqb s.user.0 user) (Some s) o) refl (λ _ _. refl) (λ _ _. refl) ss in
+    c.copied.ensures ∙ found ∙ same

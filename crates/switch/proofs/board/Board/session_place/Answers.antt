@@ -1,13 +1,14 @@
--- A turn passes another user's session, or ends at the place.
-use Rattle.std.proofs.Common.{sym, arith}
-use Rattle.switch.proofs.Sessions.{hit, miss, past}
+-- The place of the first session of the user, by the clauses of both.
+use Rattle.std.proofs.Common.{eqb, ltb, cond, vec_items, length, ℕ, Some, None, Option, sym, ap, ◌∙◌, rules, tests}
+use Rattle.std.proofs.lemmas.Iterator.{YieldsList-from_slice}
+use Rattle.std.proofs.lemmas.Iterator.Search.{position_from_yields_List}
+use Rattle.switch.specs.declared.session.Session.{Session}
+use Rattle.switch.proofs.Sessions.{place_is}
 use Rattle.switch.proofs.board.Board.session_place.Goals as goal
 
-pub returns-then-same : goal.returns-then-same
-returns-then-same c = omega (arith, c.loop-i.invariant, rw c.deref-session-items.ensures.value at (hit c.args.user.0 c.deref-session-items.result.now c.loop-i.i _ c.loop-i-test.true (sym c.if-same.ensures)))
-
-pub loop-i-preserved : goal.loop-i-preserved
-loop-i-preserved c = omega (arith, c.loop-i.invariant, rw c.deref-session-items.ensures.value at (miss c.args.user.0 c.deref-session-items.result.now c.loop-i.i _ c.loop-i-test.true (sym c.if-same.ensures)))
-
 pub returns : goal.returns
-returns c = omega (arith, c.loop-i.invariant, rw c.deref-session-items.ensures.value at (past c.args.user.0 c.deref-session-items.result.now c.loop-i.i c.loop-i-test.false), c.len.ensures, c.deref-session-items.ensures.len, c.loop-i.auto.i-end)
+returns c =
+    let user = c.args.user.0 in
+    let ss = vec_items c.args.self.now.sessions in
+    position_from_yields_List (λ (s : Session). eqb s.user.0 user) _ _ c.position.result c.position.ensures.ran (YieldsList-from_slice ss cc) (λ x b q k. search (rules, tests))
+    ∙ ap (λ (n : ℕ). let o : Option ℕ = cond (ltb n (length ss)) (Some n) None in o) (sym (place_is user ss))
