@@ -1,9 +1,8 @@
 -- Every deed that is noted keeps the books. Assumes nothing.
-use Rattle.std.proofs.Common.{◌≡◌, ℕ, Bool, true, false, cond, ◌&&◌, eqb, ◌⊎◌, List, [], ◌∷◌, ◌++◌, map, Some, Ok, Err, Result, sym, refl, ap, ◌∙◌, subst, inl, inr, arith}
-use Rattle.std.proofs.lemmas.Bool.Decides.{eqb_tells}
+use Rattle.std.proofs.Common.{◌≡◌, ℕ, Bool, true, false, cond, ◌&&◌, eqb, List, [], ◌∷◌, ◌++◌, map, Some, Ok, Err, Result, sym, refl, ap, ◌∙◌, subst, arith}
+use Rattle.std.proofs.lemmas.Bool.Decides.{nat_tests}
 use Rattle.records.specs.Legs.{one}
 use Rattle.records.specs.declared.legs.HeldLegs.{HeldLegs}
-use Rattle.register.specs.User.{same}
 use Rattle.law.specs.History.{Deed, deed, leg_among, live, on_hold, parties, party, party_of}
 use Rattle.law.specs.History.Deed.{connected, hold_granted, retrieval_granted, cleared_by_party, cleared_by_network}
 use Rattle.law.specs.declared.event.Event.{Event}
@@ -25,8 +24,8 @@ module _ (ds : List Deed) (m : Model) (k : Kept ds m) where
   unfolding parties live on_hold
   kept_connected c a b =
       record {
-        calls = λ d. ap parties_by (seen d) ∙ joins d (eqb c d);
-        lives = λ d. ap live_by (seen d) ∙ lives d (eqb c d);
+        calls = λ d. let s = seen d in let h = k.calls d in grind (arith, nat_tests);
+        lives = λ d. let s = seen d in let h = k.lives d in grind (arith, nat_tests);
         marks = k.marks;
         granted = k.granted;
         retrieved = k.retrieved;
@@ -38,27 +37,13 @@ module _ (ds : List Deed) (m : Model) (k : Kept ds m) where
       seen : (d : ℕ) → call_in d (put same_call (entry_for c a b) m.calls) ≡ cond (eqb c d) (Some (entry_for c a b)) (call_in d m.calls)
       seen d = found_put same_call (entry_for c a b) (is_call d) (sees_call (entry_for c a b) d) m.calls
 
-      joins : (d : ℕ) (z : Bool) → parties_by (cond z (Some (entry_for c a b)) (call_in d m.calls)) ≡ cond z (Some (record { first = a; second = b })) (parties ds d)
-      joins d true = refl
-      joins d false = k.calls d
-
-      lives : (d : ℕ) (z : Bool) → live_by (cond z (Some (entry_for c a b)) (call_in d m.calls)) ≡ cond z true (live ds d)
-      lives d true = refl
-      lives d false = k.lives d
-
-  swap : (a b x : Bool) {p q : Bool} → p ≡ q → cond (a && b) x p ≡ cond (b && a) x q
-  swap true true x e = refl
-  swap true false x e = e
-  swap false true x e = e
-  swap false false x e = e
-
   kept_hold : (v c : ℕ) → Kept (hold_granted v c ∷ ds) (after (hold_granted v c) m)
   unfolding parties live on_hold
   kept_hold v c =
       record {
         calls = k.calls;
         lives = k.lives;
-        marks = λ w d. marked_put (mark_for v c true) w d m.marks ∙ swap (same v w) (eqb c d) true (k.marks w d);
+        marks = λ w d. let s = marked_put (mark_for v c true) w d m.marks in let h = k.marks w d in grind (arith, nat_tests);
         granted = let h = k.granted in omega arith;
         retrieved = k.retrieved;
         cleared = k.cleared;
@@ -72,7 +57,7 @@ module _ (ds : List Deed) (m : Model) (k : Kept ds m) where
       record {
         calls = k.calls;
         lives = k.lives;
-        marks = λ w d. marked_renewed v c w d m.marks ∙ swap (same v w) (eqb c d) false (k.marks w d);
+        marks = λ w d. let s = marked_renewed v c w d m.marks in let h = k.marks w d in grind (arith, nat_tests);
         granted = k.granted;
         retrieved = let h = k.retrieved in omega arith;
         cleared = k.cleared;
@@ -82,16 +67,13 @@ module _ (ds : List Deed) (m : Model) (k : Kept ds m) where
 
   -- the clears, by whether they end the call
   clear_parties : (z : Bool) (c d : ℕ) → parties_by (call_in d (cond z (map (ended c) m.calls) m.calls)) ≡ parties ds d
-  clear_parties true c d = parties_ended c d m.calls ∙ k.calls d
-  clear_parties false c d = k.calls d
+  clear_parties z c d = let s = parties_ended c d m.calls in let h = k.calls d in grind (arith, nat_tests)
 
   clear_live : (z : Bool) (c d : ℕ) → live_by (call_in d (cond z (map (ended c) m.calls) m.calls)) ≡ cond (z && eqb c d) false (live ds d)
-  clear_live true c d = live_ended c d m.calls ∙ ap (λ x. cond (eqb c d) false x) (k.lives d)
-  clear_live false c d = k.lives d
+  clear_live z c d = let s = live_ended c d m.calls in let h = k.lives d in grind (arith, nat_tests)
 
   clear_marks : (z : Bool) (c w d : ℕ) → marked w d (cond z (map (freed c) m.marks) m.marks) ≡ cond (z && eqb c d) false (on_hold ds w d)
-  clear_marks true c w d = marked_freed c w d m.marks ∙ ap (λ x. cond (eqb c d) false x) (k.marks w d)
-  clear_marks false c w d = k.marks w d
+  clear_marks z c w d = let s = marked_freed c w d m.marks in let h = k.marks w d in grind (arith, nat_tests)
 
   clear_calls_apart : (z : Bool) (c : ℕ) → Apart same_call (cond z (map (ended c) m.calls) m.calls)
   clear_calls_apart true c = apart_map same_call (ended c) m.calls (call_ended c) k.calls_apart
@@ -106,19 +88,7 @@ module _ (ds : List Deed) (m : Model) (k : Kept ds m) where
 
   -- a party of the call that is cleared
   and_at : (P : ℕ → Bool) (c d : ℕ) → P c && eqb c d ≡ eqb c d && P d
-  and_at P c d = go (eqb_tells c d)
-    where
-      end : (z : Bool) → z && false ≡ false
-      end true = refl
-      end false = refl
-
-      whole : (z : Bool) → z && true ≡ z
-      whole true = refl
-      whole false = refl
-
-      go : ((eqb c d ≡ true) × (c ≡ d)) ⊎ ((eqb c d ≡ false) × (c ≡ d → ⊥)) → P c && eqb c d ≡ eqb c d && P d
-      go (inl e) = rw e.0 (whole (P c) ∙ ap P e.1)
-      go (inr e) = rw e.0 (end (P c))
+  and_at P c d = grind (arith, nat_tests)
 
   ends : (v c d : ℕ) → party_of v (parties_by (call_in c m.calls)) && eqb c d ≡ eqb c d && party ds v d
   ends v c d = ap (λ o. party_of v o && eqb c d) (k.calls c) ∙ and_at (party ds v) c d

@@ -1,4 +1,3 @@
-mod Blanks
 mod Shown
 mod Found
 mod Sights

@@ -1,9 +1,8 @@
 -- What the tables of the books show after each change. Assumes nothing.
-use Rattle.std.proofs.Common.{◌≡◌, ℕ, Bool, true, false, cond, eqb, List, [], ◌∷◌, map, Some, None, Option, refl, ap, ◌∙◌, arith}
+use Rattle.std.proofs.Common.{◌≡◌, ℕ, false, cond, eqb, List, [], ◌∷◌, map, refl, arith}
 use Rattle.std.proofs.lemmas.Bool.Decides.{nat_tests}
-use Rattle.std.specs.Option.{option_map}
 use Rattle.books.specs.Model.{mark_for}
-use Rattle.books.specs.Tables.{call_in, ended, freed, held_by, is_call, is_leg, leg_in, live_by, marked, parties_by, put, renewed, same_call, same_leg}
+use Rattle.books.specs.Tables.{call_in, ended, freed, is_call, is_leg, live_by, marked, parties_by, put, renewed, same_call, same_leg}
 use Rattle.books.specs.declared.entry.Entry.{Entry}
 use Rattle.books.specs.declared.entry.Mark.{Mark}
 use Rattle.books.proofs.Found.{found_put, found_renewed, Sees}
@@ -34,19 +33,10 @@ leg_freed c x y = grind (arith, nat_tests)
 
 -- after a hold and after a retrieval
 pub marked_put : (n : Mark) (w d : ℕ) (ms : List Mark) → marked w d (put same_leg n ms) ≡ cond (is_leg w d n) n.held (marked w d ms)
-marked_put n w d ms = ap held_by (found_put same_leg n (is_leg w d) (sees_leg n w d) ms) ∙ go (is_leg w d n)
-  where
-    go : (b : Bool) → held_by (cond b (Some n) (leg_in w d ms)) ≡ cond b n.held (marked w d ms)
-    go true = refl
-    go false = refl
+marked_put n w d ms = let seen = found_put same_leg n (is_leg w d) (sees_leg n w d) ms in grind (arith, nat_tests)
 
 pub marked_renewed : (v c w d : ℕ) (ms : List Mark) → marked w d (map (renewed same_leg (mark_for v c false)) ms) ≡ cond (is_leg w d (mark_for v c false)) false (marked w d ms)
-marked_renewed v c w d ms = ap held_by (found_renewed same_leg (mark_for v c false) (is_leg w d) (sees_leg (mark_for v c false) w d) ms) ∙ go (is_leg w d (mark_for v c false)) (leg_in v c ms)
-  where
-    go : (b : Bool) (o : Option Mark) → held_by (cond b (option_map (λ _. mark_for v c false) o) (leg_in w d ms)) ≡ cond b false (marked w d ms)
-    go true None = refl
-    go true (Some m) = refl
-    go false o = refl
+marked_renewed v c w d ms = let seen = found_renewed same_leg (mark_for v c false) (is_leg w d) (sees_leg (mark_for v c false) w d) ms in grind (arith, nat_tests)
 
 -- after a clear
 pub parties_ended : (c d : ℕ) (es : List Entry) → parties_by (call_in d (map (ended c) es)) ≡ parties_by (call_in d es)

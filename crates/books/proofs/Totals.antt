@@ -1,6 +1,6 @@
 -- Sums over identifiers are sums over the tables. Assumes nothing.
-use Rattle.std.proofs.Common.{◌≡◌, ℕ, zero, suc, ◌+◌, ◌<◌, ◌≤◌, Bool, true, false, cond, not, ◌&&◌, ◌||◌, eqb, ltb, ◌⊎◌, List, [], ◌∷◌, Some, None, sum_by, Option, sym, refl, ap, ◌∙◌, subst, inl, inr, arith}
-use Rattle.std.proofs.lemmas.List.Sums.{sum_by-cons}
+use Rattle.std.proofs.Common.{◌≡◌, ℕ, zero, suc, ◌+◌, ◌<◌, ◌≤◌, Bool, true, false, cond, not, ◌&&◌, ◌||◌, eqb, ltb, ◌⊎◌, List, [], ◌∷◌, Some, None, length, filter, sum_by, Option, sym, refl, ap, ◌∙◌, inl, inr, arith}
+use Rattle.std.proofs.lemmas.List.Sums.{length-filter, sum_by-cons}
 use Rattle.std.proofs.lemmas.Bool.Decides.{nat_tests, leb_tells}
 use Rattle.records.specs.Legs.{one}
 use Rattle.register.specs.User.{same}
@@ -10,10 +10,17 @@ use Rattle.law.specs.Law.{calls_differing, differs, shows}
 use Rattle.law.proofs.Total.{total_at, total_same, total_zero}
 use Rattle.books.specs.Kept.{Kept}
 use Rattle.books.specs.Model.{Model}
-use Rattle.books.specs.Tables.{Apart, call_in, found, free_legs, held_by, held_one, is_call, is_leg, leg_in, legs_one, live_by, marked, missed_one, parties_by, same_call, same_leg, wrong_one}
+use Rattle.std.specs.List.{find}
+use Rattle.books.specs.Tables.{Apart, call_in, free_legs, held_by, is_call, is_leg, leg_in, legs_one, live_by, marked, missed_one, parties_by, same_call, same_leg, within, wrong_one}
 use Rattle.books.specs.declared.entry.Entry.{Entry}
 use Rattle.books.specs.declared.entry.Mark.{Mark}
-use Rattle.books.proofs.Found.{no_some}
+
+-- how many pass two tests
+pub counted : {X : Type 0} (a b : X → Bool) (xs : List X) → length (filter (λ x. a x && b x) xs) ≡ sum_by (λ x. cond (a x) (one (b x)) 0) xs
+counted a b xs = length-filter (λ x. a x && b x) xs ∙ simp split
+  where
+    split : (x : _) → cond (a x && b x) 1 0 ≡ cond (a x) (one (b x)) 0
+    split x = grind (arith, nat_tests)
 
 abbrev at : {X : Type 0} → (X → ℕ) → Option X → ℕ
 at f None = 0
@@ -34,17 +41,17 @@ module _ {X : Type 0} (key : X → ℕ) (p : X → Bool) (f : X → ℕ) (n : �
   -- each identifier once
   abbrev Once : List X → Type 0
   Once [] = Unit {0}
-  Once (x ∷ xs) = (p x ≡ true → found (keyed (key x)) xs ≡ None) × Once xs
+  Once (x ∷ xs) = (p x ≡ true → find (keyed (key x)) xs ≡ None) × Once xs
 
-  total_step : (x : X) (xs : List X) → (p x ≡ true → found (keyed (key x)) xs ≡ None) → total (λ c. at f (found (keyed c) xs)) n ≡ sum_by counts xs
-      → total (λ c. at f (found (keyed c) (x ∷ xs))) n ≡ counts x + sum_by counts xs
+  total_step : (x : X) (xs : List X) → (p x ≡ true → find (keyed (key x)) xs ≡ None) → total (λ c. at f (find (keyed c) xs)) n ≡ sum_by counts xs
+      → total (λ c. at f (find (keyed c) (x ∷ xs))) n ≡ counts x + sum_by counts xs
   total_step x xs o ih = go (p x) refl (leb_tells (suc (key x)) n)
     where
       old : ℕ → ℕ
-      old c = at f (found (keyed c) xs)
+      old c = at f (find (keyed c) xs)
 
       new : ℕ → ℕ
-      new c = at f (found (keyed c) (x ∷ xs))
+      new c = at f (find (keyed c) (x ∷ xs))
 
       apart : (c : ℕ) → (key x ≡ c → ⊥) → keyed c x ≡ false
       apart c d = grind (arith, nat_tests)
@@ -52,30 +59,30 @@ module _ {X : Type 0} (key : X → ℕ) (p : X → Bool) (f : X → ℕ) (n : �
       here : p x ≡ true → keyed (key x) x ≡ true
       here e = grind (arith, nat_tests)
 
-      skip : (c : ℕ) → keyed c x ≡ false → at f (cond (keyed c x) (Some x) (found (keyed c) xs)) ≡ at f (found (keyed c) xs)
+      skip : (c : ℕ) → keyed c x ≡ false → at f (cond (keyed c x) (Some x) (find (keyed c) xs)) ≡ at f (find (keyed c) xs)
       skip c e = rw e
 
-      stop : (c : ℕ) → keyed c x ≡ true → at f (cond (keyed c x) (Some x) (found (keyed c) xs)) ≡ f x
+      stop : (c : ℕ) → keyed c x ≡ true → at f (cond (keyed c x) (Some x) (find (keyed c) xs)) ≡ f x
       stop c e = rw e
 
       go : (b : Bool) → p x ≡ b → ((ltb (key x) n ≡ true) × (suc (key x) ≤ n)) ⊎ ((ltb (key x) n ≡ false) × (n < suc (key x)))
-          → total (λ c. at f (found (keyed c) (x ∷ xs))) n ≡ counts x + sum_by counts xs
+          → total (λ c. at f (find (keyed c) (x ∷ xs))) n ≡ counts x + sum_by counts xs
       go false e l =
-          let t = total_same (λ c. at f (found (keyed c) xs)) (λ c. at f (found (keyed c) (x ∷ xs))) n (λ c l. skip c (rw e)) in
+          let t = total_same (λ c. at f (find (keyed c) xs)) (λ c. at f (find (keyed c) (x ∷ xs))) n (λ c l. skip c (rw e)) in
           let z : counts x ≡ 0 = rw e in
           omega arith
       go true e (inl l) =
-          let t = total_at (λ c. at f (found (keyed c) xs)) (λ c. at f (found (keyed c) (x ∷ xs))) n (key x) (omega (arith, l.1)) (λ c d. skip c (apart c d)) in
-          let y : at f (found (keyed (key x)) xs) ≡ 0 = ap (at f) (o e) in
-          let s : at f (found (keyed (key x)) (x ∷ xs)) ≡ f x = stop (key x) (here e) in
+          let t = total_at (λ c. at f (find (keyed c) xs)) (λ c. at f (find (keyed c) (x ∷ xs))) n (key x) (omega (arith, l.1)) (λ c d. skip c (apart c d)) in
+          let y : at f (find (keyed (key x)) xs) ≡ 0 = ap (at f) (o e) in
+          let s : at f (find (keyed (key x)) (x ∷ xs)) ≡ f x = stop (key x) (here e) in
           let z : counts x ≡ f x = rw (e, l.0) in
           omega arith
       go true e (inr l) =
-          let t = total_same (λ c. at f (found (keyed c) xs)) (λ c. at f (found (keyed c) (x ∷ xs))) n (λ c m. skip c (apart c (λ q. omega (arith, l.1)))) in
+          let t = total_same (λ c. at f (find (keyed c) xs)) (λ c. at f (find (keyed c) (x ∷ xs))) n (λ c m. skip c (apart c (λ q. omega (arith, l.1)))) in
           let z : counts x ≡ 0 = rw (e, l.0) in
           omega arith
 
-  total_found : (xs : List X) → Once xs → total (λ c. at f (found (keyed c) xs)) n ≡ sum_by counts xs
+  total_found : (xs : List X) → Once xs → total (λ c. at f (find (keyed c) xs)) n ≡ sum_by counts xs
   total_found [] o = total_zero (λ c. 0) n (λ c l. refl)
   total_found (x ∷ xs) o = total_step x xs o.0 (total_found xs o.1) ∙ sym (sum_by-cons counts x xs)
 
@@ -84,12 +91,9 @@ calls_once : (f : Entry → ℕ) (es : List Entry) → Apart same_call es → On
 calls_once f [] a = tt
 calls_once f (e ∷ es) a = (λ _. a.0, calls_once f es a.1)
 
-user_same : (v u : ℕ) → same v u ≡ true → v ≡ u
-user_same v u e = grind (arith, nat_tests)
-
 marks_once : (u : ℕ) (f : Mark → ℕ) (ms : List Mark) → Apart same_leg ms → Once (λ m. m.call.0) (λ m. same m.user.0 u) f all_calls ms
 marks_once u f [] a = tt
-marks_once u f (m ∷ ms) a = (λ e. subst (λ v. found (is_leg v m.call.0) ms ≡ None) (user_same m.user.0 u e) a.0, marks_once u f ms a.1)
+marks_once u f (m ∷ ms) a = (λ e. let i : m.user.0 ≡ u = grind (arith, nat_tests) in rw i at a.0, marks_once u f ms a.1)
 
 pub total_calls : (f : Entry → ℕ) (es : List Entry) → Apart same_call es → total (λ c. at f (call_in c es)) all_calls ≡ sum_by (λ e. cond (ltb e.call.0 16384) (f e) 0) es
 total_calls f es a = total_found (λ e. e.call.0) (λ _. true) f all_calls es (calls_once f es a)
@@ -99,22 +103,19 @@ pub total_marks : (u : ℕ) (f : Mark → ℕ) (ms : List Mark) → Apart same_l
 total_marks u f ms a = total_found (λ m. m.call.0) (λ m. same m.user.0 u) f all_calls ms (marks_once u f ms a)
 
 -- what is found is of the call
-found_passes : {X : Type 0} (t : X → Bool) (x : X) (xs : List X) → found t xs ≡ Some x → t x ≡ true
-found_passes t x [] e = no_some e
-found_passes t x (y ∷ xs) e = go (t y) refl (found_passes t x xs) e
-  where
-    go : (b : Bool) → t y ≡ b → (found t xs ≡ Some x → t x ≡ true) → cond b (Some y) (found t xs) ≡ Some x → t x ≡ true
-    go true h ih q = let i : y ≡ x = cc in subst (λ z. t z ≡ true) i h
-    go false h ih q = ih q
+found_passes : {X : Type 0} (t : X → Bool) (x : X) (xs : List X) → find t xs ≡ Some x → t x ≡ true
+found_passes t x [] e = cc
+found_passes t x (y ∷ xs) e = let ih = found_passes t x xs in grind (arith, nat_tests)
 
 call_of : (c : ℕ) (e : Entry) (es : List Entry) → call_in c es ≡ Some e → e.call.0 ≡ c
-call_of c e es h = user_same e.call.0 c (found_passes (is_call c) e es h)
-
-leg_call : (v c : ℕ) (m : Mark) → is_leg v c m ≡ true → m.call.0 ≡ c
-leg_call v c m e = grind (arith, nat_tests)
+call_of c e es h = let passes = found_passes (is_call c) e es h in grind (arith, nat_tests)
 
 mark_of : (v c : ℕ) (m : Mark) (ms : List Mark) → leg_in v c ms ≡ Some m → m.call.0 ≡ c
-mark_of v c m ms h = leg_call v c m (found_passes (is_leg v c) m ms h)
+mark_of v c m ms h = let passes = found_passes (is_leg v c) m ms h in grind (arith, nat_tests)
+
+-- what a mark counts among the calls that a user has on hold
+abbrev pub held_one : ℕ → Mark → ℕ
+held_one u m = cond (same m.user.0 u && within m.call.0) (one m.held) 0
 
 module _ (ds : List Deed) (m : Model) (k : Kept ds m) where
   held_at : (o : Option Mark) → at (λ x. one x.held) o ≡ one (held_by o)
@@ -156,14 +157,7 @@ module _ (ds : List Deed) (m : Model) (k : Kept ds m) where
     wrong_at c (Some e) h = let i = call_of c e m.calls h in rw i
 
     both : (a s l : Bool) → one (a && not s) + one (l && (s && not a)) ≡ one ((a && not s) || (l && (s && not a)))
-    both true true true = refl
-    both true true false = refl
-    both true false true = refl
-    both true false false = refl
-    both false true true = refl
-    both false true false = refl
-    both false false true = refl
-    both false false false = refl
+    both a s l = grind (arith, nat_tests)
 
     differs_at : (c : ℕ) → at missed (leg_in m.user c m.marks) + at wrong (call_in c m.calls) ≡ one (differs ds cs m.user c)
     differs_at c =

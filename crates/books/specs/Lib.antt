@@ -1,3 +1,4 @@
 pub mod Tables
 pub mod Model
 pub mod Kept
+pub mod Words

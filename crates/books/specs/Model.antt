@@ -1,12 +1,11 @@
--- The books as their tables and counts, and what each deed changes. Assumes nothing.
-use Rattle.std.specs.Prelude.{◌≡◌, ℕ, ◌+◌, Bool, true, false, cond, not, ◌&&◌, List, [], ◌∷◌, map, is_some, Ok, Err, vec_items, Result, ◌==◌}
+-- The books as their tables and counts, which is how a clause sees them, and what each deed changes. Assumes nothing.
+use Rattle.std.specs.Prelude.{◌≡◌, ℕ, ◌+◌, Bool, true, false, cond, not, ◌&&◌, List, [], ◌∷◌, map, is_some, Ok, Err, Result, ◌==◌}
 use Rattle.records.specs.Legs.{one}
 use Rattle.records.specs.declared.legs.HeldLegs.{HeldLegs}
 use Rattle.register.specs.User.{same}
 use Rattle.law.specs.History.{Deed, leg_among, party_of}
 use Rattle.law.specs.History.Deed.{connected, hold_granted, retrieval_granted, cleared_by_party, cleared_by_network}
 use Rattle.books.specs.Tables.{call_in, ended, freed, leg_in, parties_by, put, renewed, same_call, same_leg}
-use Rattle.books.specs.declared.books.Books.{Books}
 use Rattle.books.specs.declared.entry.Entry.{Entry}
 use Rattle.books.specs.declared.entry.Mark.{Mark}
 use Rattle.books.specs.declared.error.NoteError.{NoteError}
@@ -19,9 +18,6 @@ pub record Model : Type 0 where
   pub granted : ℕ
   pub retrieved : ℕ
   pub cleared : ℕ
-
-abbrev pub model : Books → Model
-model b = record { user = b.user.0; calls = vec_items b.calls; marks = vec_items b.marks; granted = b.granted; retrieved = b.retrieved; cleared = b.cleared }
 
 abbrev pub fresh : ℕ → Model
 fresh u = record { user = u; calls = []; marks = []; granted = 0; retrieved = 0; cleared = 0 }

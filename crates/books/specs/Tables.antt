@@ -1,5 +1,6 @@
 -- The tables of the books: what is found in them and what is put into them. Assumes nothing.
 use Rattle.std.specs.Prelude.{◌≡◌, ℕ, ◌+◌, Bool, false, cond, not, ◌&&◌, List, [], ◌∷◌, ◌++◌, map, is_some, Some, None, Option, ◌==◌, nat_lt}
+use Rattle.std.specs.List.{find}
 use Rattle.records.specs.Legs.{one}
 use Rattle.register.specs.User.{same}
 use Rattle.terminal.specs.declared.call.Call.{Call}
@@ -8,15 +9,10 @@ use Rattle.law.specs.Law.{shows}
 use Rattle.books.specs.declared.entry.Entry.{Entry}
 use Rattle.books.specs.declared.entry.Mark.{Mark}
 
--- the first that passes a test
-abbrev pub found : {X : Type 0} → (X → Bool) → List X → Option X
-found t [] = None
-found t (x ∷ xs) = cond (t x) (Some x) (found t xs)
-
 -- no two are alike
 abbrev pub Apart : {X : Type 0} → (X → X → Bool) → List X → Type 0
 Apart r [] = Unit {0}
-Apart r (x ∷ xs) = (found (r x) xs ≡ None) × Apart r xs
+Apart r (x ∷ xs) = (find (r x) xs ≡ None) × Apart r xs
 
 -- a new one in place of one that is like it
 abbrev pub renewed : {X : Type 0} → (X → X → Bool) → X → X → X
@@ -24,7 +20,7 @@ renewed r n x = cond (r n x) n x
 
 -- a new one in place of those that are like it, or else at the end
 abbrev pub put : {X : Type 0} → (X → X → Bool) → X → List X → List X
-put r n xs = cond (is_some (found (r n) xs)) (map (renewed r n) xs) (xs ++ n ∷ [])
+put r n xs = cond (is_some (find (r n) xs)) (map (renewed r n) xs) (xs ++ n ∷ [])
 
 -- an entry is of a call; a mark is of a user's leg in a call
 abbrev pub is_call : ℕ → Entry → Bool
@@ -40,10 +36,10 @@ abbrev pub same_leg : Mark → Mark → Bool
 same_leg n m = is_leg n.user.0 n.call.0 m
 
 abbrev pub call_in : ℕ → List Entry → Option Entry
-call_in c es = found (is_call c) es
+call_in c es = find (is_call c) es
 
 abbrev pub leg_in : ℕ → ℕ → List Mark → Option Mark
-leg_in v c ms = found (is_leg v c) ms
+leg_in v c ms = find (is_leg v c) ms
 
 -- the parties by an entry, and whether it is live
 abbrev pub parties_by : Option Entry → Option Parties
@@ -72,10 +68,6 @@ freed c m = cond (m.call.0 == c) (record { user = m.user; call = m.call; held = 
 -- all identifiers are below this
 abbrev pub within : ℕ → Bool
 within c = nat_lt c 16384
-
--- what a mark counts among the calls that a user has on hold
-abbrev pub held_one : ℕ → Mark → ℕ
-held_one u m = cond (same m.user.0 u && within m.call.0) (one m.held) 0
 
 -- what a mark counts among the calls that a user has on hold and a terminal does not show so
 abbrev pub missed_one : List Call → ℕ → Mark → ℕ

@@ -4,10 +4,9 @@
 #![tactic(auto)]
 
 mod books;
-mod counts;
 mod entry;
 mod error;
-mod tables;
+mod table;
 
 pub use books::Books;
 pub use error::NoteError;

@@ -1,5 +1,6 @@
 -- The terminal's table of calls, by what is found of each call. Assumes nothing.
 use Rattle.std.proofs.Common.{◌≡◌, ℕ, Bool, true, false, cond, eqb, ◌⊎◌, List, [], ◌∷◌, ◌++◌, is_some, Some, None, Option, sym, refl, ap, ◌∙◌, inl, inr, arith}
+use Rattle.std.proofs.lemmas.Bool.{cond_both}
 use Rattle.std.proofs.lemmas.Bool.Decides.{nat_tests, eqb_tells}
 use Rattle.frames.specs.declared.content.Body.{Body}
 use Rattle.frames.specs.declared.content.Body.TheVariants.{Request, Answer, ClearRequest, ClearAnswer, Notice}
@@ -172,19 +173,11 @@ shows_settle (Request o) n x cs d = refl
 shows_settle ClearRequest n x cs d = refl
 shows_settle (Notice w) n x cs d = refl
 
-cond_same : (h : Bool) → cond h true false ≡ h
-cond_same true = refl
-cond_same false = refl
-
-cond_false : (h : Bool) → cond h false false ≡ false
-cond_false true = refl
-cond_false false = refl
-
 pub shows_settle_here : (a : Body) (n : ℕ) (cs : List Call) → Once cs → shows (settle a n cs) n ≡ mark_after a (has cs n) (shows cs n)
 unfolding settle
-shows_settle_here (Answer Hold Granted) n cs o = shows_mark_here true n cs ∙ cond_same (has cs n)
+shows_settle_here (Answer Hold Granted) n cs o = shows_mark_here true n cs ∙ cond_both (has cs n) true false (λ b. b ≡ has cs n) sym sym
 shows_settle_here (Answer Hold (Declined y)) n cs o = shows_cause_here y n cs o
-shows_settle_here (Answer Retrieve Granted) n cs o = shows_mark_here false n cs ∙ cond_false (has cs n)
+shows_settle_here (Answer Retrieve Granted) n cs o = shows_mark_here false n cs ∙ cond_both (has cs n) false false (λ b. b ≡ false) (λ _. refl) (λ _. refl)
 shows_settle_here (Answer Retrieve (Declined y)) n cs o = shows_cause_here y n cs o
 shows_settle_here ClearAnswer n cs o = shows_without n cs o
 shows_settle_here (Request k) n cs o = refl

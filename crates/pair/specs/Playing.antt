@@ -1,22 +1,14 @@
 -- A list of calls played on a pair. Assumes nothing.
-use Rattle.std.specs.Prelude.{◌≡◌, ℕ, List, [], ◌∷◌, ◌++◌, map, reverse}
+use Rattle.std.specs.Prelude.{◌≡◌, ℕ, List, ◌++◌, map, reverse}
 use Rattle.register.specs.declared.register.Register.{Ghosts}
 use Rattle.law.specs.Law.{Played}
 use Rattle.law.specs.Run.{Run, Waiting, fresh_state}
 use Rattle.law.specs.declared.event.Event.{Event}
-use Rattle.pair.specs.View.{SamePair, Steps, call_of, limits_of, view}
+use Rattle.pair.specs.View.{SamePair, call_of, limits_of, view}
 use Rattle.pair.specs.declared.call.Call.{Call}
 use Rattle.pair.specs.declared.ends.Pair.{Pair}
 
 module _ {R X Y : Type 0} {G : Ghosts R} (limits : R → ℕ → ℕ) (ups : X → Waiting) (downs : Y → Waiting) where
-  -- a call was made, and what it told stands after what was noted before
-  pub record Notes (p : Pair R X Y G) (c : Call) (old new : List Event) (q : Pair R X Y G) : Type 0 where
-    pub event : Event
-    pub which : call_of event ≡ c
-    pub noted : new ≡ old ++ event ∷ []
-    pub same : SamePair p q
-    pub step : Steps limits ups downs p event q
-
   -- what playing calls on a pair leaves: what was told are these calls; they go on with whatever run led to the pair; and from a fresh pair,
   -- with a pool of any size, they are a run to the pair as it then is, after every part of which the sums stand
   pub record Plays (p : Pair R X Y G) (cs : List Call) (es : List Event) (q : Pair R X Y G) : Type 0 where

@@ -2,7 +2,6 @@
 use Rattle.std.specs.Prelude.{◌≡◌, ℕ, List}
 use Rattle.register.specs.declared.register.Register.{Ghosts}
 use Rattle.switch.specs.State.{kept_register, state}
-use Rattle.terminal.specs.State.{model}
 use Rattle.law.specs.Law.{Onward}
 use Rattle.law.specs.Run.{Run, State, Step, Waiting}
 use Rattle.law.specs.declared.event.Event.{Event}
@@ -13,7 +12,7 @@ use Rattle.pair.specs.declared.ends.Pair.{Pair}
 
 module _ {R X Y : Type 0} {G : Ghosts R} (limits : R → ℕ → ℕ) (ups : X → Waiting) (downs : Y → Waiting) where
   abbrev pub view : Pair R X Y G → State
-  view p = record { terminal = model p.terminal; switch = state p.switch; up = ups p.up; down = downs p.down }
+  view p = record { terminal = p.terminal; switch = state p.switch; up = ups p.up; down = downs p.down }
 
   -- the limits of the register that the switch has
   abbrev pub limits_of : Pair R X Y G → ℕ → ℕ
@@ -26,6 +25,11 @@ module _ {R X Y : Type 0} {G : Ghosts R} (limits : R → ℕ → ℕ) (ups : X �
   -- whatever run led to the pair, the call makes it longer, and the sums stand after it
   abbrev pub GoesOn : Pair R X Y G → Event → Pair R X Y G → Type 0
   GoesOn p e q = (size : ℕ) (es : List Event) → Run (limits_of p) size p.user es (view p) → Onward (limits_of p) size p.user e (view q) es
+
+  -- a call is both
+  pub record Lawful (p : Pair R X Y G) (e : Event) (q : Pair R X Y G) : Type 0 where
+    pub step : Steps p e q
+    pub onward : GoesOn p e q
 
 -- the user and the register stay
 abbrev pub SamePair : {R X Y : Type 0} {G : Ghosts R} → Pair R X Y G → Pair R X Y G → Type 0

@@ -1,6 +1,6 @@
 // Playing a list of calls on a pair.
-ghost use Rattle.std.specs.Prelude.{◌≡◌, ◌+◌, ◌<◌, vec_len, vec_capacity, MatchResult};
-ghost use Rattle.pair.specs.Playing.{Notes, Plays};
+ghost use Rattle.std.specs.Prelude.{◌≡◌, MatchResult};
+ghost use Rattle.pair.specs.Playing.{Plays};
 
 use crate::call::Call;
 use crate::ends::Pair;
@@ -8,22 +8,6 @@ use law::Event;
 use links::Link;
 use register::Register;
 use std::alloc::{AllocError, Global};
-
-// Makes a call and notes what it told.
-fn note<R: Register, U: Link, D: Link, V: Link, E: Link>(
-    pair: &mut Pair<R, U, D>,
-    up: &mut V,
-    down: &mut E,
-    call: Call,
-    log: &mut Vec<Event>,
-)
-    requires { vec_len log.old < vec_capacity log.old }
-    ensures notes { Notes R.Register.limit U.Link.waits D.Link.waits pair.old call log.old.items log.new.items pair.new }
-    ensures len { vec_len log.new ≡ vec_len log.old + 1 }
-    ensures room { vec_capacity log.new ≡ vec_capacity log.old }
-{
-    log.push_reserved(pair.call(call, up, down));
-}
 
 // Makes the calls one after another and answers what each told; `up` and `down` are the links of whoever is not the pair's user.
 // Memory is reserved first: for want of it no call is made.
@@ -37,8 +21,8 @@ pub fn play<R: Register, U: Link, D: Link, V: Link, E: Link>(
     ensures { MatchResult result (λ log. Plays R.Register.limit U.Link.waits D.Link.waits pair.old calls.now log.items pair.new) (λ _. pair.new ≡ pair.old) }
 {
     let mut log = Vec::with_capacity(heap, calls.len())?;
-    for call in calls {
-        note(pair, up, down, *call, &mut log);
+    for &call in calls {
+        log.push_reserved(pair.call(call, up, down));
     }
     Ok(log)
 }

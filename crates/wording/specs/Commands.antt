@@ -3,7 +3,7 @@ use Rattle.std.specs.Prelude.{ℕ, List, ◌++◌, codes, decimal}
 use Rattle.law.specs.declared.event.Event.{Event}
 use Rattle.law.specs.declared.event.Event.TheVariants as event
 use Rattle.register.specs.declared.user.User.{User}
-use Rattle.wording.specs.Words.{ask_word}
+use Rattle.signalling.specs.Words.{ask_word}
 
 -- a call at the terminal of a user: `at USER` and the rest
 abbrev pub at_user : User → List ℕ → List ℕ

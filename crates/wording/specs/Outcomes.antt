@@ -1,5 +1,6 @@
 -- What the outcome of a call is in words: `OK` and what was told, or `NO` and the fault. Assumes nothing.
-use Rattle.std.specs.Prelude.{ℕ, List, ◌++◌, Ok, Err, codes, decimal, Result}
+use Rattle.std.specs.Prelude.{ℕ, List, ◌++◌, Some, Ok, Err, codes, decimal, Option, Result}
+use Rattle.std.specs.Option.{option_map}
 use Rattle.frames.specs.Codes.{news_number}
 use Rattle.frames.specs.declared.content.Operation.{Operation}
 use Rattle.frames.specs.declared.content.Operation.TheVariants as operation
@@ -9,6 +10,7 @@ use Rattle.law.specs.declared.event.Event.TheVariants as event
 use Rattle.records.specs.Legs.{legs_number}
 use Rattle.signalling.specs.declared.ask.Ask.{Ask}
 use Rattle.signalling.specs.declared.ask.Ask.TheVariants as ask
+use Rattle.signalling.specs.Words.{ask_word}
 use Rattle.switch.specs.declared.told.Handled.{Handled}
 use Rattle.switch.specs.declared.told.Handled.TheVariants.{Answered, Cleared}
 use Rattle.switch.specs.declared.told.Notified.{Notified}
@@ -21,8 +23,9 @@ use Rattle.terminal.specs.declared.told.Reply.{Reply}
 use Rattle.terminal.specs.declared.told.Reply.TheVariants as reply
 use Rattle.terminal.specs.declared.told.Ticked.{Ticked}
 use Rattle.terminal.specs.declared.told.Ticked.TheVariants as ticked
+use Rattle.text.specs.Words.{fault_words}
 use Rattle.text.specs.declared.fault.Fault.{Fault}
-use Rattle.wording.specs.Words.{ask_word, beside, fault_words, operation_word, verdict_words}
+use Rattle.wording.specs.Words.{beside, operation_word, verdict_words}
 
 -- what a request was for an operation, to number its causes; a clear has none
 abbrev pub operation_of : Ask → Operation
@@ -65,6 +68,11 @@ notified_words (notified.Notice c w f) = codes "notified " ++ (decimal c.0 ++ (c
 abbrev pub answered : {X : Type 0} → (X → List ℕ) → Result X Fault → List ℕ
 answered words (Ok x) = codes "OK " ++ words x
 answered words (Err f) = codes "NO " ++ fault_words f
+
+-- the same over what a type prints
+abbrev pub answered_output : {X : Type 0} → (X → Option (List ℕ)) → Result X Fault → Option (List ℕ)
+answered_output output (Ok x) = option_map (λ words. codes "OK " ++ words) (output x)
+answered_output output (Err f) = Some (codes "NO " ++ fault_words f)
 
 -- of any call
 abbrev pub outcome_words : Event → List ℕ

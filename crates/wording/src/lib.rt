@@ -3,12 +3,10 @@
 #![tactic(auto)]
 
 mod command;
-mod ends;
-mod fault;
 mod outcome;
-mod words;
+mod parts;
+mod told;
 
-pub use command::command_text;
-pub use ends::{received_text, served_text};
-pub use fault::refused_text;
-pub use outcome::outcome_text;
+pub use command::Command;
+pub use outcome::{Answered, Outcome};
+pub use told::Told;

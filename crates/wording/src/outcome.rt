@@ -1,118 +1,63 @@
 // The outcome of a call in words.
-ghost use Rattle.std.specs.Prelude.{◌≡◌, ℕ, List, ◌++◌, IfOk, string_bytes, codes, decimal};
-ghost use Rattle.records.specs.Legs.{legs_number};
-ghost use Rattle.wording.specs.Outcomes.{answered, notified_words, outcome_words, received_words, served_words};
+ghost use Rattle.std.specs.Prelude.{◌++◌, Some, codes};
+ghost use Rattle.wording.specs.Outcomes.{answered_output, outcome_words};
 ghost use Rattle.wording.specs.Words.{beside};
 
-use crate::ends::{notified_text, received_text, served_text, ticked_text};
-use crate::fault::{beside_text, refused_text};
-use frames::CallId;
+use crate::parts::Beside;
+use crate::told::Told;
 use law::Event;
-use records::HeldLegs;
-use std::alloc::{AllocError, Global};
-use switch::{Notified, Served};
-use terminal::Received;
+use std::fmt;
+use switch::Handled;
 use text::Fault;
 
-fn opened(heap: Global, outcome: Result<(), Fault>) -> Result<String, AllocError>
-    ensures { IfOk result (λ s. string_bytes s ≡ answered (λ _. codes "opened") outcome) }
-{
-    match outcome {
-        Ok(()) => format!(in heap; "OK opened"),
-        Err(fault) => refused_text(heap, fault),
-    }
-}
+// `OK` and what was told, or `NO` and the fault.
+#[derive(Clone, Copy)]
+pub struct Answered<T>(pub Result<T, Fault>);
 
-fn connected(heap: Global, outcome: Result<(), Fault>) -> Result<String, AllocError>
-    ensures { IfOk result (λ s. string_bytes s ≡ answered (λ _. codes "connected") outcome) }
-{
-    match outcome {
-        Ok(()) => format!(in heap; "OK connected"),
-        Err(fault) => refused_text(heap, fault),
-    }
-}
+impl<T: fmt::Display> fmt::Display for Answered<T> {
+    ghost output = { λ a. answered_output T.output a.0 };
 
-fn requested(heap: Global, outcome: Result<Option<Fault>, Fault>) -> Result<String, AllocError>
-    ensures { IfOk result (λ s. string_bytes s ≡ answered (λ f. codes "requested" ++ beside f) outcome) }
-{
-    match outcome {
-        Ok(fault) => {
-            let text = beside_text(heap, fault)?;
-            format!(in heap; "OK requested{text}")
+    fn fmt<W: fmt::Write>(&self, f: &mut fmt::Formatter<W>) -> fmt::Result {
+        match &self.0 {
+            Ok(told) => write!(f, "OK {told}"),
+            Err(fault) => write!(f, "NO {fault}"),
         }
-        Err(fault) => refused_text(heap, fault),
     }
 }
 
-fn received(heap: Global, outcome: Result<Received, Fault>) -> Result<String, AllocError>
-    ensures { IfOk result (λ s. string_bytes s ≡ answered received_words outcome) }
-{
-    match outcome {
-        Ok(told) => {
-            let text = received_text(heap, told)?;
-            format!(in heap; "OK {text}")
-        }
-        Err(fault) => refused_text(heap, fault),
+// `requested`, and the link's fault.
+#[derive(Clone, Copy)]
+struct Requested(Option<Fault>);
+
+impl fmt::Display for Requested {
+    ghost output = { λ r. Some (codes "requested" ++ beside r.0) };
+
+    fn fmt<W: fmt::Write>(&self, f: &mut fmt::Formatter<W>) -> fmt::Result {
+        write!(f, "requested{}", Beside(self.0))
     }
 }
 
-fn served(heap: Global, outcome: Result<Served, Fault>) -> Result<String, AllocError>
-    ensures { IfOk result (λ s. string_bytes s ≡ answered served_words outcome) }
-{
-    match outcome {
-        Ok(told) => {
-            let text = served_text(heap, told)?;
-            format!(in heap; "OK {text}")
-        }
-        Err(fault) => refused_text(heap, fault),
-    }
-}
+// What a call told: `OK` and it, or `NO` and the fault with its layer and place.
+#[derive(Clone, Copy)]
+pub struct Outcome(pub Event);
 
-fn notified(heap: Global, outcome: Result<Notified, Fault>) -> Result<String, AllocError>
-    ensures { IfOk result (λ s. string_bytes s ≡ answered notified_words outcome) }
-{
-    match outcome {
-        Ok(told) => {
-            let text = notified_text(heap, told)?;
-            format!(in heap; "OK {text}")
-        }
-        Err(fault) => refused_text(heap, fault),
-    }
-}
+impl fmt::Display for Outcome {
+    ghost output = { λ o. Some (outcome_words o.0) };
 
-fn cleared(
-    heap: Global,
-    call: CallId,
-    outcome: Result<HeldLegs, Fault>,
-) -> Result<String, AllocError>
-    ensures { IfOk result (λ s. string_bytes s ≡ answered (λ l. codes "clear " ++ (decimal call.0 ++ (codes " " ++ decimal (legs_number l)))) outcome) }
-{
-    match outcome {
-        Ok(legs) => {
-            let id = call.0;
-            let number = legs.number();
-            format!(in heap; "OK clear {id} {number}")
+    fn fmt<W: fmt::Write>(&self, f: &mut fmt::Formatter<W>) -> fmt::Result {
+        match self.0 {
+            Event::Opened(_, outcome) => Answered(outcome.map(|()| "opened")).fmt(f),
+            Event::Connected(_, _, _, outcome) | Event::Joined(_, outcome) => {
+                Answered(outcome.map(|()| "connected")).fmt(f)
+            }
+            Event::Requested(_, _, outcome) => Answered(outcome.map(Requested)).fmt(f),
+            Event::Ticked(told) => Answered(Ok(Told(told))).fmt(f),
+            Event::Received(outcome) => Answered(outcome.map(Told)).fmt(f),
+            Event::Served(_, outcome) => Answered(outcome.map(Told)).fmt(f),
+            Event::Notified(_, outcome) => Answered(outcome.map(Told)).fmt(f),
+            Event::Cleared(call, outcome) => {
+                Answered(outcome.map(|legs| Told(Handled::Cleared(call, legs)))).fmt(f)
+            }
         }
-        Err(fault) => refused_text(heap, fault),
-    }
-}
-
-// `OK` and what was told, or `NO` and the fault with its layer and place.
-pub fn outcome_text(heap: Global, event: Event) -> Result<String, AllocError>
-    ensures { IfOk result (λ s. string_bytes s ≡ outcome_words event) }
-{
-    match event {
-        Event::Opened(_, outcome) => opened(heap, outcome),
-        Event::Connected(_, _, _, outcome) => connected(heap, outcome),
-        Event::Joined(_, outcome) => connected(heap, outcome),
-        Event::Requested(_, _, outcome) => requested(heap, outcome),
-        Event::Ticked(told) => {
-            let text = ticked_text(heap, told)?;
-            format!(in heap; "OK {text}")
-        }
-        Event::Received(outcome) => received(heap, outcome),
-        Event::Served(_, outcome) => served(heap, outcome),
-        Event::Notified(_, outcome) => notified(heap, outcome),
-        Event::Cleared(call, outcome) => cleared(heap, call, outcome),
     }
 }

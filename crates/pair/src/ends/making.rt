@@ -1,7 +1,6 @@
 // Making a pair, and what it shows.
 ghost use Rattle.std.specs.Prelude.{◌≡◌};
 ghost use Rattle.switch.specs.State.{kept_register, state};
-ghost use Rattle.terminal.specs.State.{model};
 
 use super::Pair;
 use links::Link;

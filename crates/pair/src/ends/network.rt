@@ -5,7 +5,7 @@ ghost use Rattle.switch.specs.Clearing.{clear_told, clears};
 ghost use Rattle.switch.specs.Connecting.{connect_checked, connected};
 ghost use Rattle.switch.specs.Opening.{open_checked, opened};
 ghost use Rattle.switch.specs.State.{state};
-ghost use Rattle.pair.specs.View.{GoesOn, SamePair, Steps, SwitchOnly};
+ghost use Rattle.pair.specs.View.{Lawful, SamePair, SwitchOnly};
 
 use super::Pair;
 use frames::CallId;
@@ -21,8 +21,7 @@ impl<R: Register, U: Link, D: Link> Pair<R, U, D> {
         ensures state { state self.new.switch ≡ opened (state self.old.switch) user }
         ensures rest { SwitchOnly self.old self.new }
         ensures same { SamePair self.old self.new }
-        ensures step { Steps R.Register.limit U.Link.waits D.Link.waits self.old (Opened user result) self.new }
-        ensures law { GoesOn R.Register.limit U.Link.waits D.Link.waits self.old (Opened user result) self.new }
+        ensures law { Lawful R.Register.limit U.Link.waits D.Link.waits self.old (Opened user result) self.new }
     {
         self.switch.open_session(user)
     }
@@ -33,8 +32,7 @@ impl<R: Register, U: Link, D: Link> Pair<R, U, D> {
         ensures state { state self.new.switch ≡ connected (state self.old.switch) call first second }
         ensures rest { SwitchOnly self.old self.new }
         ensures same { SamePair self.old self.new }
-        ensures step { Steps R.Register.limit U.Link.waits D.Link.waits self.old (Connected call first second result) self.new }
-        ensures law { GoesOn R.Register.limit U.Link.waits D.Link.waits self.old (Connected call first second result) self.new }
+        ensures law { Lawful R.Register.limit U.Link.waits D.Link.waits self.old (Connected call first second result) self.new }
     {
         self.switch.connect(call, first, second)
     }
@@ -45,8 +43,7 @@ impl<R: Register, U: Link, D: Link> Pair<R, U, D> {
         ensures state { state self.new.switch ≡ clears (state self.old.switch) call }
         ensures rest { SwitchOnly self.old self.new }
         ensures same { SamePair self.old self.new }
-        ensures step { Steps R.Register.limit U.Link.waits D.Link.waits self.old (Cleared call result) self.new }
-        ensures law { GoesOn R.Register.limit U.Link.waits D.Link.waits self.old (Cleared call result) self.new }
+        ensures law { Lawful R.Register.limit U.Link.waits D.Link.waits self.old (Cleared call result) self.new }
     {
         self.switch.clear(call)
     }

@@ -1,6 +1,6 @@
 // Any call on a pair.
 ghost use Rattle.std.specs.Prelude.{◌≡◌};
-ghost use Rattle.pair.specs.View.{GoesOn, SamePair, Steps, call_of};
+ghost use Rattle.pair.specs.View.{Lawful, SamePair, call_of};
 
 use super::Pair;
 use crate::call::Call;
@@ -13,8 +13,7 @@ impl<R: Register, U: Link, D: Link> Pair<R, U, D> {
     pub fn call<V: Link, E: Link>(&mut self, call: Call, up: &mut V, down: &mut E) -> Event
         ensures which { call_of result ≡ call }
         ensures same { SamePair self.old self.new }
-        ensures step { Steps R.Register.limit U.Link.waits D.Link.waits self.old result self.new }
-        ensures law { GoesOn R.Register.limit U.Link.waits D.Link.waits self.old result self.new }
+        ensures law { Lawful R.Register.limit U.Link.waits D.Link.waits self.old result self.new }
     {
         match call {
             Call::Open(user) => Event::Opened(user, self.open_session(user)),

@@ -1,8 +1,13 @@
-use Rattle.std.proofs.Common.{sum_by, ap, ◌∙◌}
-use Rattle.books.specs.Model.{model}
-use Rattle.books.specs.Tables.{held_one}
-use Rattle.books.proofs.Totals.{held_is}
+use Rattle.std.proofs.Common.{rules, tests, ◌&&◌, ◌∙◌}
+use Rattle.std.proofs.lemmas.Iterator.{YieldsList-from_slice}
+use Rattle.std.proofs.lemmas.Iterator.Consumers.{YieldsList-from_filter, count_from_yields_List}
+use Rattle.register.specs.User.{same}
+use Rattle.books.specs.Tables.{within}
+use Rattle.books.proofs.Totals.{counted, held_is}
 use Rattle.books.proofs.books.Books.held.Goals as goal
 
 pub returns : goal.returns
-returns c = λ ds k. c.count_held.ensures ∙ ap (sum_by (held_one c.args.self.now.user.0)) c.deref.ensures.value ∙ held_is ds (model c.args.self.now) k
+returns c = λ ds k.
+    count_from_yields_List c.filter.result _ c.count.ensures.ran (YieldsList-from_filter _ _ (YieldsList-from_slice c.args.self.now.marks cc) c.filter.ensures.closure (λ x b q k. search (rules, tests)))
+    ∙ counted (λ m. same m.user.0 c.args.self.now.user && within m.call.0) (λ m. m.held) c.args.self.now.marks
+    ∙ held_is ds c.args.self.now k

@@ -1,7 +1,5 @@
-use Rattle.std.proofs.Common.{[], sym, subst}
-use Rattle.books.specs.Kept.{Kept}
 use Rattle.books.proofs.Keeping.{kept_fresh}
 use Rattle.books.proofs.books.Books.new.Goals as goal
 
-pub returns : goal.returns
-returns c = record { kept = subst (λ m. Kept [] m) (sym c.empty.ensures) (kept_fresh c.args.user.0); start = c.empty.ensures }
+pub returns-clause-kept : goal.returns-clause-kept
+returns-clause-kept c = rw (c.new.ensures.items, c.new-2.ensures.items) (kept_fresh c.args.user.0)

@@ -1,9 +1,7 @@
 use Rattle.std.proofs.Common.{refl}
-use Rattle.pair.proofs.Stepping.{receive_goes}
+use Rattle.law.proofs.Meant.{receiving_meant}
+use Rattle.pair.proofs.Stepping.{lawful}
 use Rattle.pair.proofs.ends.Pair.receive.Goals as goal
 
-pub returns : goal.returns
-returns g c =
-    let told = c.receive.ensures in
-    let went = receive_goes g.R.Register.limit g.U.Link.waits g.D.Link.waits g.D.Link.longest g.D.Link.takes g.met.D.Link.taken c.args.self.now c.receive.new.self c.receive.new.down c.receive.result told.outcome in
-    record { outcome = told.outcome; rest = (refl, refl, refl); step = went.0; law = went.1 }
+pub returns-clause-law : goal.returns-clause-law
+returns-clause-law g c = lawful g.R.Register.limit g.U.Link.waits g.D.Link.waits _ _ _ (receiving_meant g.D.Link.waits g.D.Link.longest g.D.Link.takes g.met.D.Link.taken c.receive.ensures.outcome, refl, refl)
