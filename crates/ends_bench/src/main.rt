@@ -1,7 +1,6 @@
 // Has a terminal's requests served by a switch over rings, and tells the time that it took: the proved side of bench/ends.sh.
 #![tactic(auto)]
 
-use anyhow::anyhow;
 use frames::CallId;
 use links::Ring;
 use register::{General, User};
@@ -22,14 +21,10 @@ struct Bench {
     other_down: Ring,
 }
 
-// A switch with a limit of 7 and 128 channels.
+// A switch with a limit of 7 and 128 channels; that of stack_probe too: the two programs have no crate in common that makes one.
 fn a_switch(heap: Global) -> anyhow::Result<Switch<General>> {
-    let Ok(register) = General::new(7) else {
-        return Err(anyhow!("no register"));
-    };
-    let Ok(parts) = Parts::new(heap, 128) else {
-        return Err(anyhow!("no parts"));
-    };
+    let register = General::new(7)?;
+    let parts = Parts::new(heap, 128)?;
     Ok(Switch::new(register, parts))
 }
 
@@ -69,21 +64,18 @@ impl Bench {
     fn exchange(&mut self, ask: Ask, call: CallId) -> u32 {
         let _ = self.one.request(&mut self.up, ask, call);
         let _ = self.switch.serve(User(1), &mut self.up, &mut self.down);
-        match self.one.receive(&mut self.down) {
-            Ok(Received::Closed(_, _, Reply::Granted)) => 1,
-            _ => 0,
-        }
+        let received = self.one.receive(&mut self.down);
+        u32::from(matches!(received, Ok(Received::Closed(_, _, Reply::Granted))))
     }
 
     // User 2 is sent his notice, and receives it: 1 if he has one.
     fn notice(&mut self) -> u32 {
         let _ = self.switch.notify(User(2), &mut self.other_down);
-        match self.two.receive(&mut self.other_down) {
-            Ok(Received::Notice(_, _)) => 1,
-            _ => 0,
-        }
+        let received = self.two.receive(&mut self.other_down);
+        u32::from(matches!(received, Ok(Received::Notice(_, _))))
     }
 
+    // This and `exchanges_with_notices` are two loops, since a test in one loop would be measured too.
     fn exchanges(&mut self, call: CallId) -> u32 {
         let mut sum = 0u32;
         for _ in 0..ROUNDS {

@@ -3,7 +3,7 @@ use crate::steps::Step::{Accepts, HandsOut, IsEmpty, Refuses};
 use crate::steps::{line_of, play, ring_of};
 use links::{Line, Link, check_memory};
 use std::test::Fail;
-use text::Fault;
+use text::{Fault, Layer};
 
 // Nine frames of 6 bytes take 63 of 64 bytes, so each round begins one place earlier.
 #[test]
@@ -81,7 +81,7 @@ fn unfit_memory_counts_as_none(rt: HostRuntime) -> Result<(), Fail> {
     assert_eq!(rt; check_memory(64), Ok(()));
     assert_eq!(rt; check_memory(4096), Ok(()));
     for bytes in [63usize, 4097] {
-        assert_eq!(rt; check_memory(bytes), Err(Fault::in_making(54)));
+        assert_eq!(rt; check_memory(bytes), Err(Fault::new(Layer::Making, 54)));
         let mut ring = ring_of(rt.alloc(), bytes)?;
         play(&rt, &mut ring, &[Refuses(0, 41), Refuses(1, 43), IsEmpty])?;
         let mut line = Line::new(ring.into_memory());
@@ -96,9 +96,7 @@ fn too_little_to_take_into(rt: HostRuntime) -> Result<(), Fail> {
     let mut ring = ring_of(rt.alloc(), 64)?;
     play(&rt, &mut ring, &[Accepts(3, 1)])?;
     let mut few = [0xEEu8; 31];
-    assert_eq!(rt; ring.take(&mut few), Err(Fault::in_link(42)));
-    for b in few {
-        assert_eq!(rt; b, 0xEE);
-    }
+    assert_eq!(rt; ring.take(&mut few), Err(Fault::new(Layer::Link, 42)));
+    assert_eq!(rt; few, [0xEEu8; 31]);
     play(&rt, &mut ring, &[HandsOut(3, 1), IsEmpty])
 }

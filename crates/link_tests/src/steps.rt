@@ -1,9 +1,9 @@
-// A test as a list of steps on a link.
+// A test as a list of steps on a link: steps are data, so that one list reads as the table of what is asked and what comes of it.
 use links::{Line, Link, Ring};
 use std::alloc::{AllocError, Global};
 use std::process::Abort;
 use std::test::Fail;
-use text::Fault;
+use text::{Fault, Layer};
 
 pub fn ring_of(heap: Global, bytes: usize) -> Result<Ring, AllocError> {
     Ok(Ring::new(vec![in heap; 0; bytes]?))
@@ -25,8 +25,8 @@ pub enum Step {
 // Each byte is 17 more than the one before.
 fn fill(bytes: &mut [u8], first: u8) {
     let mut byte = first;
-    for i in 0..bytes.len() {
-        bytes[i] = byte;
+    for place in bytes.iter_mut() {
+        *place = byte;
         byte = byte.wrapping_add(17);
     }
 }
@@ -48,10 +48,9 @@ fn takes<L: Link>(
     assert_eq!(rt; link.take(&mut out), Ok(length));
     let mut expected = [0u8; 32];
     fill(&mut expected, first);
-    let n = length.unwrap_or(0);
-    for i in 0..32 {
-        assert_eq!(rt; out[i], if i < n { expected[i] } else { 0xEE });
-    }
+    let (frame, rest) = out.split_at(length.unwrap_or(0).min(32));
+    assert_eq!(rt; frame, &expected[..frame.len()]);
+    assert!(rt; rest.iter().all(|byte| *byte == 0xEE));
     Ok(())
 }
 
@@ -62,7 +61,7 @@ fn take_step<L: Link>(rt: &impl Abort, link: &mut L, step: Step) -> Result<(), F
             Ok(())
         },
         Step::Refuses(length, number) => {
-            assert_eq!(rt; send(link, length, 0), Err(Fault::in_link(number)));
+            assert_eq!(rt; send(link, length, 0), Err(Fault::new(Layer::Link, number)));
             Ok(())
         },
         Step::HandsOut(length, first) => takes(rt, link, Some(length), first),

@@ -1,7 +1,7 @@
 // Pools of 1, 2 and 128 channels: drawing, giving back, and the legs of calls.
 use pool::{Bearer, Pool, carry_both, carry_one};
 use std::test::Fail;
-use text::Fault;
+use text::{Fault, Layer};
 
 #[test]
 fn sizes(rt: HostRuntime) -> Result<(), Fail> {
@@ -11,10 +11,7 @@ fn sizes(rt: HostRuntime) -> Result<(), Fail> {
         assert_eq!(rt; pool.in_use(), 0);
     }
     for size in [0u8, 129, 255] {
-        match Pool::new(size) {
-            Ok(_) => assert!(rt; false),
-            Err(fault) => assert_eq!(rt; fault, Fault::in_making(53)),
-        }
+        assert_eq!(rt; Pool::new(size).err(), Some(Fault::new(Layer::Making, 53)));
     }
     Ok(())
 }
@@ -49,10 +46,9 @@ fn one_channel_carries_no_call(rt: HostRuntime) -> Result<(), Fail> {
 #[test]
 fn a_call_on_hold(rt: HostRuntime) -> Result<(), Fail> {
     let mut pool = Pool::new(2)?;
-    let Some((mut first, mut second)) = carry_both(&mut pool) else {
-        assert!(rt; false);
-        return Ok(());
-    };
+    let (mut first, mut second) = carry_both(&mut pool).ok_or_else(|| Fail::new(
+        "two channels carry no call",
+    ))?;
     let mut other = Bearer::bare();
     assert!(rt; !carry_one(&mut pool, &mut other));
     assert!(rt; pool.release(&mut first));

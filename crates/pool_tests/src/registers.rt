@@ -2,7 +2,7 @@
 use register::{Entry, General, Register, Table, User};
 use std::process::Abort;
 use std::test::Fail;
-use text::Fault;
+use text::{Fault, Layer};
 
 fn entry(user: u32, limit: u8) -> Entry {
     Entry {
@@ -23,7 +23,7 @@ fn listed(entries: &[Entry], user: u32) -> Result<u8, Fault> {
 }
 
 fn refused(rt: &impl Abort, entries: &[Entry], number: u8) {
-    assert_eq!(rt; listed(entries, 1), Err(Fault::in_making(number)));
+    assert_eq!(rt; listed(entries, 1), Err(Fault::new(Layer::Making, number)));
 }
 
 #[test]
@@ -34,10 +34,7 @@ fn one_limit_for_everybody(rt: HostRuntime) -> Result<(), Fail> {
         assert_eq!(rt; limit(&general, 16_777_215), n);
     }
     for n in [0u8, 8, 255] {
-        match General::new(n) {
-            Ok(_) => assert!(rt; false),
-            Err(fault) => assert_eq!(rt; fault, Fault::in_making(51)),
-        }
+        assert_eq!(rt; General::new(n).err(), Some(Fault::new(Layer::Making, 51)));
     }
     Ok(())
 }

@@ -6,12 +6,11 @@ use Rattle.links.specs.Packing.{frames}
 use Rattle.links.specs.Ring.{in_ring}
 use Rattle.links.specs.declared.faulty.Faulty.{Faulty}
 use Rattle.links.specs.declared.link.Link.{Ghosts}
-use Rattle.links.specs.declared.ring.Ring.{Ring}
+use Rattle.links.specs.declared.ring.InRing.{InRing}
+use Rattle.links.specs.declared.stored.Stored.{Stored}
 use Rattle.pair.specs.View.{call_of, limits_of, view}
 use Rattle.pair.specs.declared.call.Call.{Call}
-use Rattle.pair.specs.declared.ends.Pair.{Pair}
 use Rattle.register.specs.declared.general.General.{General}
-use Rattle.register.specs.declared.register.Register as register
 use Rattle.register.specs.declared.user.User.{User}
 use Rattle.rounds.specs.declared.fresh.Round.{Round}
 
@@ -19,12 +18,8 @@ use Rattle.rounds.specs.declared.fresh.Round.{Round}
 abbrev pub limit_in : General → ℕ → ℕ
 limit_in g u = g.limit
 
-abbrev pub waits_in : {g : Ghosts Ring} → Faulty Ring g → Waiting
+abbrev pub waits_in : {g : _} {h : _} → Faulty (Stored InRing g) h → Waiting
 waits_in a = frames in_ring a.lower.queue
-
--- the pair of a user over such links
-abbrev pub RingPair : register.Ghosts General → Ghosts Ring → Type 0
-RingPair m g = Pair General (Faulty Ring g) (Faulty Ring g) m
 
 -- the calls were played on a fresh pair with so many channels: what was told is of these calls, is a run, and the sums stood all along
 pub record Rounded (user : User) (channels : ℕ) (cs : List Call) (q : Round) : Type 0 where

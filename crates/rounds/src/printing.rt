@@ -1,76 +1,61 @@
 // What is printed after some calls: the last of them, its outcome and the three sums, and the waiting line where it is longer than the user.
 use crate::fresh::{Round, Setting, play_fresh};
 use crate::run::{CHANNELS, DOWN_LOST, LIMIT, OWN, UP_DOUBLED};
-use anyhow::anyhow;
+use anyhow::Context;
 use books::Books;
 use law::Event;
 use pair::Call;
 use register::User;
-use std::alloc::{AllocError, Global};
-use terminal::Terminal;
+use std::alloc::Global;
 use waiting::waiting_line;
-use wording::{command_text, outcome_text};
+use wording::{Command, Outcome};
 
-fn setting() -> Setting {
-    Setting {
-        user: OWN,
-        limit: LIMIT,
-        channels: CHANNELS,
-        up_lost: 0,
-        up_doubled: UP_DOUBLED,
-        down_lost: DOWN_LOST,
-        down_doubled: 0,
-    }
-}
-
-// The call that the open request names.
-fn request_text(heap: Global, terminal: &Terminal) -> Result<String, AllocError> {
-    match terminal.open_request() {
-        None => format!(in heap; "none"),
-        Some(request) => {
-            let id = request.call.0;
-            format!(in heap; "{id}")
-        }
-    }
-}
+const SETTING: Setting = Setting {
+    user: OWN,
+    limit: LIMIT,
+    channels: CHANNELS,
+    up_lost: 0,
+    up_doubled: UP_DOUBLED,
+    down_lost: DOWN_LOST,
+    down_doubled: 0,
+};
 
 // The books of the pair's user, of all that was told.
 fn books_of(heap: Global, events: &[Event]) -> anyhow::Result<Books> {
     let mut books = Books::new(heap, OWN);
     for event in events {
-        if books.note(event).is_err() {
-            return Err(anyhow!("the books cannot be kept"));
-        }
+        books.note(event).context("the books cannot be kept")?;
     }
     Ok(books)
 }
 
-// (a): the calls on which the ends differ, and the call that the open request names.
-fn marks_text(heap: Global, round: &Round, books: &Books) -> Result<String, AllocError> {
+// The three sums.
+fn print_sums(rt: &HostRuntime, round: &Round) -> anyhow::Result<()> {
+    let books = books_of(rt.alloc(), round.events.as_slice())?;
     let terminal = round.pair.terminal();
-    let differ = books.differing(terminal.calls());
-    let request = request_text(heap, terminal)?;
-    format!(in heap; "differ {differ} request {request}")
-}
-
-// (b): the user's calls on hold, beside what was granted and cleared, and his limit.
-fn holds_text(heap: Global, books: &Books) -> Result<String, AllocError> {
-    let held = books.held();
-    let granted = books.granted();
-    let retrieved = books.retrieved();
-    let cleared = books.cleared();
-    format!(in heap;
-        "held {held} granted {granted} retrieved {retrieved} cleared {cleared} limit {LIMIT}"
-    )
-}
-
-// (c): the channels in use, beside the legs not on hold, and how many there are.
-fn channels_text(heap: Global, round: &Round, books: &Books) -> Result<String, AllocError> {
     let switch = round.pair.switch();
-    let used = switch.channels_in_use();
-    let legs = books.legs();
-    let size = switch.channels();
-    format!(in heap; "used {used} legs {legs} size {size}")
+    // (a): the calls on which the ends differ, and the call that the open request names.
+    print!(rt; "   differ {}", books.differing(terminal.calls()))?;
+    match terminal.open_request() {
+        Some(request) => print!(rt; " request {}", request.call)?,
+        None => print!(rt; " request none")?,
+    }
+    // (b): the user's calls on hold, beside what was granted and cleared, and his limit.
+    print!(rt;
+        " held {} granted {} retrieved {} cleared {} limit {LIMIT}",
+        books.held(),
+        books.granted(),
+        books.retrieved(),
+        books.cleared()
+    )?;
+    // (c): the channels in use, beside the legs not on hold, and how many there are.
+    println!(rt;
+        " used {} legs {} size {}",
+        switch.channels_in_use(),
+        books.legs(),
+        switch.channels()
+    )?;
+    Ok(())
 }
 
 // The waiting line of the user, where somebody follows him.
@@ -81,40 +66,23 @@ fn print_line(rt: &HostRuntime, round: &Round) -> anyhow::Result<()> {
     };
     if told.length > 1 {
         let ring = if told.ring { " ring" } else { "" };
-        let length = told.length;
-        print!(rt; "   line {length}{ring}")?;
-        for user in line.iter().take(length) {
-            let ssi = user.0;
-            print!(rt; " {ssi}")?;
+        print!(rt; "   line {}{ring}", told.length)?;
+        for user in line.iter().take(told.length) {
+            print!(rt; " {user}")?;
         }
         println!(rt; "")?;
     }
     Ok(())
 }
 
-fn print_sums(rt: &HostRuntime, round: &Round) -> anyhow::Result<()> {
-    let heap = rt.alloc();
-    let books = books_of(heap, round.events.as_slice())?;
-    let marks = marks_text(heap, round, &books)?;
-    let holds = holds_text(heap, &books)?;
-    let channels = channels_text(heap, round, &books)?;
-    println!(rt; "   {marks} {holds} {channels}")?;
-    Ok(())
-}
-
 // Plays the calls on a fresh pair, and prints the last of them.
 pub(crate) fn print_after(rt: &HostRuntime, calls: &[Call]) -> anyhow::Result<()> {
-    let heap = rt.alloc();
-    let Ok(round) = play_fresh(heap, setting(), calls) else {
-        return Err(anyhow!("no pair can be made"));
-    };
-    let Some(event) = round.events.as_slice().last().copied() else {
+    let round = play_fresh(rt.alloc(), SETTING, calls).context("no pair can be made")?;
+    let Some(&event) = round.events.last() else {
         return Ok(());
     };
-    let number = calls.len();
-    let command = command_text(heap, OWN, event)?;
-    let outcome = outcome_text(heap, event)?;
-    println!(rt; "{number} {command}: {outcome}")?;
+    let command = Command { user: OWN, event };
+    println!(rt; "{} {command}: {}", calls.len(), Outcome(event))?;
     print_sums(rt, &round)?;
     print_line(rt, &round)
 }

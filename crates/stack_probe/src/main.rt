@@ -1,7 +1,6 @@
 // Makes every call of both ends and of the waiting line at its deepest, each from a function of its own: what bench/stack.sh looks into.
 #![tactic(auto)]
 
-use anyhow::anyhow;
 use frames::CallId;
 use links::{Faulty, Line, Link, Ring};
 use register::{General, User};
@@ -10,13 +9,10 @@ use switch::{Parts, Switch};
 use terminal::{Ask, Terminal};
 use waiting::waiting_line;
 
+// The switch of ends_bench too: the two programs have no crate in common that makes one.
 fn make_switch(heap: Global) -> anyhow::Result<Switch<General>> {
-    let Ok(register) = General::new(7) else {
-        return Err(anyhow!("no register"));
-    };
-    let Ok(parts) = Parts::new(heap, 128) else {
-        return Err(anyhow!("no parts"));
-    };
+    let register = General::new(7)?;
+    let parts = Parts::new(heap, 128)?;
     Ok(Switch::new(register, parts))
 }
 
@@ -66,19 +62,13 @@ fn notify<L: Link>(switch: &mut Switch<General>, user: u32, down: &mut L) -> boo
 }
 
 // How many of these hold.
-fn count(held: &[bool]) -> u32 {
-    let mut n = 0u32;
-    for h in held {
-        if *h {
-            n = n.wrapping_add(1);
-        }
-    }
-    n
+fn count(held: &[bool]) -> usize {
+    held.iter().filter(|h| **h).count()
 }
 
 // 32 sessions, and 64 calls; each user from 2 to 33 has a call with the one before.
-fn fill(switch: &mut Switch<General>) -> u32 {
-    let mut n = 0u32;
+fn fill(switch: &mut Switch<General>) -> usize {
+    let mut n = 0usize;
     for user in 2..34u32 {
         n = n.wrapping_add(count(&[open_session(switch, user)]));
     }
@@ -101,7 +91,7 @@ fn exchange<L: Link>(
     down: &mut L,
     ask: Ask,
     call: u16,
-) -> u32 {
+) -> usize {
     let asked = request(terminal, up, ask, call);
     tick(terminal, up);
     let served = serve(switch, user, up, down);
@@ -117,8 +107,8 @@ fn hold_all<L: Link>(
     switch: &mut Switch<General>,
     up: &mut L,
     down: &mut L,
-) -> anyhow::Result<u32> {
-    let mut n = 0u32;
+) -> anyhow::Result<usize> {
+    let mut n = 0usize;
     for call in 1..33u16 {
         let mut terminal = Terminal::new(heap)?;
         let user = u32::from(call) + 1;
@@ -130,7 +120,7 @@ fn hold_all<L: Link>(
 }
 
 // The last call held, retrieved, and cleared; then refusals, notices, clears and lines.
-fn run<L: Link>(heap: Global, up: &mut L, down: &mut L) -> anyhow::Result<u32> {
+fn run<L: Link>(heap: Global, up: &mut L, down: &mut L) -> anyhow::Result<usize> {
     let mut switch = make_switch(heap)?;
     let mut line = [User(0); 33];
     let mut n = fill(&mut switch);

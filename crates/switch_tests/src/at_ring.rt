@@ -2,9 +2,8 @@
 ghost use Rattle.switch.specs.Notifying.{Notifying};
 ghost use Rattle.switch.specs.Serving.{Serving};
 ghost use Rattle.switch.specs.State.{state};
-ghost use Rattle.switch_tests.specs.AtRing.{ring_sends, ring_takes};
 
-use links::Ring;
+use links::{Link, Ring};
 use register::{Register, User};
 use switch::{Notified, Served, Switch};
 use text::Fault;
@@ -15,7 +14,7 @@ pub fn serve_at_rings<R: Register>(
     up: &mut Ring,
     down: &mut Ring,
 ) -> Result<Served, Fault>
-    ensures { Serving ring_takes ring_sends (R.Register.limit switch.old.register user.0) user (state switch.old) (state switch.new) up.old up.new down.old down.new result }
+    ensures { Serving ⟦<Ring as Link>⟧.takes ⟦<Ring as Link>⟧.sends (R.Register.limit switch.old.register user.0) user (state switch.old) (state switch.new) up.old up.new down.old down.new result }
 {
     switch.serve(user, up, down)
 }
@@ -25,7 +24,7 @@ pub fn notify_at_ring<R: Register>(
     user: User,
     down: &mut Ring,
 ) -> Result<Notified, Fault>
-    ensures { Notifying ring_sends user (state switch.old) (state switch.new) down.old down.new result }
+    ensures { Notifying ⟦<Ring as Link>⟧.sends user (state switch.old) (state switch.new) down.old down.new result }
 {
     switch.notify(user, down)
 }

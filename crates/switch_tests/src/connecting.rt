@@ -54,8 +54,8 @@ fn identifiers(rt: HostRuntime) -> Result<(), Fail> {
 
 // Connects calls from 1 to the last, all between users 1 and 2.
 fn fill<R: Register>(rt: &impl Abort, switch: &mut Switch<R>, last: u16) {
-    for id in 0..last {
-        assert_eq!(rt; switch.connect(CallId(id + 1), User(1), User(2)), Ok(()));
+    for id in 1..=last {
+        assert_eq!(rt; switch.connect(CallId(id), User(1), User(2)), Ok(()));
     }
 }
 
@@ -116,10 +116,10 @@ fn channels(rt: HostRuntime) -> Result<(), Fail> {
 
 #[test]
 fn numbers_of_held_legs(rt: HostRuntime) {
-    assert_eq!(rt; HeldLegs::Neither.number(), 0);
-    assert_eq!(rt; HeldLegs::First.number(), 1);
-    assert_eq!(rt; HeldLegs::Second.number(), 2);
-    assert_eq!(rt; HeldLegs::Both.number(), 3);
+    assert_eq!(rt; u8::from(HeldLegs::Neither), 0);
+    assert_eq!(rt; u8::from(HeldLegs::First), 1);
+    assert_eq!(rt; u8::from(HeldLegs::Second), 2);
+    assert_eq!(rt; u8::from(HeldLegs::Both), 3);
 }
 
 // The legs that were on hold are told, and the channels of the others are free; both parties have news of it.

@@ -6,7 +6,7 @@ use std::alloc::Global;
 use std::process::Abort;
 use std::test::Fail;
 use switch::Switch;
-use text::Fault;
+use text::{Fault, Layer};
 use waiting::{WaitingLine, waiting_line};
 
 // The line of a user, who stands first in it; the places past its length are untouched.
@@ -18,19 +18,19 @@ fn expect_line(rt: &impl Abort, switch: &Switch<General>, users: &[u32], ring: b
         waiting_line(switch, User(first), &mut line),
         Ok(WaitingLine { length, ring })
     );
-    for (i, place) in line.iter().enumerate() {
-        assert_eq!(rt; place.0, users.get(i).copied().unwrap_or(9_999));
+    let mut wanted = [User(9_999); 35];
+    for (place, user) in wanted.iter_mut().zip(users) {
+        *place = User(*user);
     }
+    assert_eq!(rt; line, wanted);
 }
 
 fn refused(rt: &impl Abort, switch: &Switch<General>, user: u32, line: &mut [User], number: u8) {
     assert_eq!(rt;
         waiting_line(switch, User(user), line),
-        Err(Fault::in_switch(number))
+        Err(Fault::new(Layer::Switch, number))
     );
-    for place in line {
-        assert_eq!(rt; place.0, 9_999);
-    }
+    assert!(rt; line.iter().all(|place| place.0 == 9_999));
 }
 
 // 30 is checked before 44; both write nothing.
@@ -126,8 +126,8 @@ fn queue(rt: &impl Abort, heap: Global) -> Result<Switch<General>, Fail> {
 fn of_thirty_three(rt: HostRuntime) -> Result<(), Fail> {
     let mut switch = queue(&rt, rt.alloc())?;
     let mut users = [0u32; 33];
-    for (i, place) in users.iter_mut().enumerate() {
-        *place = (i + 1) as u32;
+    for (place, user) in users.iter_mut().zip(1..=33u32) {
+        *place = user;
     }
     expect_line(&rt, &switch, &users, false);
     expect_line(&rt, &switch, &users[1..], false);

@@ -1,21 +1,21 @@
 // Notices: which one is next, and what drops them.
-use crate::steps::{GRANTED, Step, a_ring, a_switch, clear, hold, no_ring, play, retrieve};
+use crate::steps::{GRANTED, Step, a_switch, clear, hold, play, retrieve, ring_of};
 use frames::{CallId, News};
 use records::HeldLegs;
 use register::User;
 use signalling::pull;
 use std::test::Fail;
 use switch::Notified;
-use text::Fault;
+use text::{Fault, Layer};
 
 #[test]
 fn users_in_range(rt: HostRuntime) -> Result<(), Fail> {
     let mut switch = a_switch(rt.alloc(), 1, 2)?;
-    let mut down = a_ring(rt.alloc())?;
+    let mut down = ring_of(rt.alloc(), 64)?;
     for user in [0u32, 16_777_216] {
         assert_eq!(rt;
             switch.notify(User(user), &mut down),
-            Err(Fault::in_switch(30))
+            Err(Fault::new(Layer::Switch, 30))
         );
     }
     assert_eq!(rt; pull(&mut down), Ok(None));
@@ -134,14 +134,14 @@ fn dropped_by_a_clear(rt: HostRuntime) -> Result<(), Fail> {
 #[test]
 fn refused_notices(rt: HostRuntime) -> Result<(), Fail> {
     let mut switch = a_switch(rt.alloc(), 7, 128)?;
-    let mut down = no_ring(rt.alloc())?;
+    let mut down = ring_of(rt.alloc(), 8)?;
     play(
         &rt,
         rt.alloc(),
         &mut switch,
         &[Step::Join(5, 1, 2), Step::Clear(5, HeldLegs::Neither)],
     )?;
-    let fault = Some(Fault::in_link(43));
+    let fault = Some(Fault::new(Layer::Link, 43));
     for user in [1u32, 2] {
         assert_eq!(rt;
             switch.notify(User(user), &mut down),

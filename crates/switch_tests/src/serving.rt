@@ -1,7 +1,5 @@
 // Serving: what is refused, what is taken, and what is answered again.
-use crate::steps::{
-    GRANTED, Step, a_ring, a_switch, clear, hold, no_ring, play, request, retrieve,
-};
+use crate::steps::{GRANTED, Step, a_switch, clear, hold, play, request, retrieve, ring_of};
 use frames::{Body, Cause, News, Operation, Verdict};
 use links::Link;
 use records::HeldLegs;
@@ -11,7 +9,7 @@ use std::alloc::Global;
 use std::process::Abort;
 use std::test::Fail;
 use switch::{Served, Switch};
-use text::Fault;
+use text::{Fault, Layer};
 
 // A switch with call 5 between users 1 and 2, who have sessions.
 fn one_call(rt: &impl Abort, heap: Global) -> Result<Switch<General>, Fail> {
@@ -29,8 +27,8 @@ fn one_call(rt: &impl Abort, heap: Global) -> Result<Switch<General>, Fail> {
 #[test]
 fn not_served(rt: HostRuntime) -> Result<(), Fail> {
     let mut switch = one_call(&rt, rt.alloc())?;
-    let mut up = a_ring(rt.alloc())?;
-    let mut down = a_ring(rt.alloc())?;
+    let mut up = ring_of(rt.alloc(), 64)?;
+    let mut down = ring_of(rt.alloc(), 64)?;
     assert_eq!(rt;
         switch.serve(User(1), &mut up, &mut down),
         Ok(Served::Nothing)
@@ -40,7 +38,7 @@ fn not_served(rt: HostRuntime) -> Result<(), Fail> {
     for (user, number) in [(0u32, 30u8), (16_777_216, 30), (3, 31)] {
         assert_eq!(rt;
             switch.serve(User(user), &mut up, &mut down),
-            Err(Fault::in_switch(number))
+            Err(Fault::new(Layer::Switch, number))
         );
     }
     assert_eq!(rt; pull(&mut down), Ok(None));
@@ -58,12 +56,12 @@ fn refused_frame(
     number: u8,
     place: usize,
 ) -> Result<(), Fail> {
-    let mut up = a_ring(heap)?;
-    let mut down = a_ring(heap)?;
+    let mut up = ring_of(heap, 64)?;
+    let mut down = ring_of(heap, 64)?;
     up.send(octets)?;
     assert_eq!(rt;
         switch.serve(User(1), &mut up, &mut down),
-        Err(Fault::in_frame(number, place))
+        Err(Fault::at(Layer::Frame, number, place))
     );
     assert_eq!(rt; pull(&mut up), Ok(None));
     assert_eq!(rt; pull(&mut down), Ok(None));
@@ -176,10 +174,10 @@ fn bits_of_two_users(rt: HostRuntime) -> Result<(), Fail> {
 #[test]
 fn refused_answers(rt: HostRuntime) -> Result<(), Fail> {
     let mut switch = one_call(&rt, rt.alloc())?;
-    let mut up = a_ring(rt.alloc())?;
-    let mut down = no_ring(rt.alloc())?;
+    let mut up = ring_of(rt.alloc(), 64)?;
+    let mut down = ring_of(rt.alloc(), 8)?;
     let held = hold(5, GRANTED);
-    let fault = Some(Fault::in_link(43));
+    let fault = Some(Fault::new(Layer::Link, 43));
     for told in [Served::Fresh(held, fault), Served::Repeat(held, fault)] {
         post(&mut up, request(false, held))?;
         assert_eq!(rt; switch.serve(User(1), &mut up, &mut down), Ok(told));

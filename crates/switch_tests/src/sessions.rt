@@ -5,11 +5,11 @@ use std::alloc::Global;
 use std::process::Abort;
 use std::test::Fail;
 use switch::{MakeError, Parts};
-use text::Fault;
+use text::{Fault, Layer};
 
 fn refused_size(rt: &impl Abort, heap: Global, channels: u8) {
     match Parts::new(heap, channels) {
-        Err(MakeError::Refused(fault)) => assert_eq!(rt; fault, Fault::in_making(53)),
+        Err(MakeError::Refused(fault)) => assert_eq!(rt; fault, Fault::new(Layer::Making, 53)),
         _ => panic!(rt; "{channels} channels are not refused"),
     }
 }

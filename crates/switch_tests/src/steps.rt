@@ -1,4 +1,4 @@
-// The steps of a test: what is done to a switch, and what must come of it.
+// The steps of a test: what is done to a switch, and what must come of it. They are data, so that the number of a step that fails is told.
 use frames::{Body, CallId, Frame, News, Operation, Verdict};
 use links::Ring;
 use records::HeldLegs;
@@ -8,7 +8,7 @@ use std::alloc::{AllocError, Global};
 use std::process::Abort;
 use std::test::Fail;
 use switch::{Handled, Notified, Parts, Served, Switch};
-use text::Fault;
+use text::{Fault, Layer};
 
 pub const GRANTED: Verdict = Verdict::Granted;
 
@@ -50,10 +50,7 @@ pub fn clear(call: u16, held: HeldLegs) -> Handled {
 }
 
 pub fn parts(heap: Global, channels: u8) -> Result<Parts, Fail> {
-    match Parts::new(heap, channels) {
-        Ok(parts) => Ok(parts),
-        Err(_) => Err(Fail::new("no parts")),
-    }
+    Parts::new(heap, channels).map_err(|_| Fail::new("no parts"))
 }
 
 // A switch with one limit for everybody.
@@ -63,13 +60,9 @@ pub fn a_switch(heap: Global, limit: u8, channels: u8) -> Result<Switch<General>
     Ok(Switch::new(register, parts))
 }
 
-pub fn a_ring(heap: Global) -> Result<Ring, AllocError> {
-    Ok(Ring::new(vec![in heap; 0; 64]?))
-}
-
-// A ring that refuses every frame.
-pub fn no_ring(heap: Global) -> Result<Ring, AllocError> {
-    Ok(Ring::new(vec![in heap; 0; 8]?))
+// One of 8 bytes refuses every frame.
+pub fn ring_of(heap: Global, bytes: usize) -> Result<Ring, AllocError> {
+    Ok(Ring::new(vec![in heap; 0; bytes]?))
 }
 
 fn frame(exchange: bool, call: CallId, body: Body) -> Frame {
@@ -100,19 +93,15 @@ fn answer(exchange: bool, handled: Handled) -> Frame {
 
 // The bit of the last request of a user that was handled.
 fn last_bit<R: Register>(switch: &Switch<R>, user: u32) -> bool {
-    for session in switch.sessions() {
-        if session.user.0 == user {
-            return session.exchange;
-        }
-    }
-    true
+    let session = switch.sessions().iter().find(|s| s.user == User(user));
+    session.is_none_or(|s| s.exchange)
 }
 
 // The checks below take the number of the step, and tell it where they fail.
 fn no_seat<R: Register>(rt: &impl Abort, at: usize, switch: &mut Switch<R>, user: u32, number: u8) {
     let before = switch.sessions().len();
     let told = switch.open_session(User(user));
-    assert_eq!(rt; told, Err(Fault::in_switch(number)), "step {at}");
+    assert_eq!(rt; told, Err(Fault::new(Layer::Switch, number)), "step {at}");
     assert_eq!(rt; switch.sessions().len(), before, "step {at}");
 }
 
@@ -129,7 +118,7 @@ fn no_join<R: Register>(
     let records = switch.records().len();
     let last = switch.last_identifier();
     let told = switch.connect(CallId(call), User(first), User(second));
-    assert_eq!(rt; told, Err(Fault::in_switch(number)), "step {at}");
+    assert_eq!(rt; told, Err(Fault::new(Layer::Switch, number)), "step {at}");
     assert_eq!(rt; switch.channels_in_use(), channels, "step {at}");
     assert_eq!(rt; switch.records().len(), records, "step {at}");
     assert_eq!(rt; switch.last_identifier(), last, "step {at}");
@@ -146,8 +135,8 @@ fn serve<R: Register>(
     told: Result<Served, Fault>,
     answer: Option<Frame>,
 ) -> Result<(), Fail> {
-    let mut up = a_ring(heap)?;
-    let mut down = a_ring(heap)?;
+    let mut up = ring_of(heap, 64)?;
+    let mut down = ring_of(heap, 64)?;
     post(&mut up, frame)?;
     assert_eq!(rt;
         switch.serve(User(user), &mut up, &mut down),
@@ -169,7 +158,7 @@ fn notify<R: Register>(
     told: Notified,
     sent: Option<Frame>,
 ) -> Result<(), Fail> {
-    let mut down = a_ring(heap)?;
+    let mut down = ring_of(heap, 64)?;
     assert_eq!(rt; switch.notify(User(user), &mut down), Ok(told), "step {at}");
     assert_eq!(rt; pull(&mut down), Ok(sent), "step {at}");
     assert_eq!(rt; pull(&mut down), Ok(None), "step {at}");
@@ -224,7 +213,7 @@ fn take_step<R: Register>(
             )?;
         }
         Step::Refuse(user, bit, body, number) => {
-            let told = Err(Fault::in_switch(number));
+            let told = Err(Fault::new(Layer::Switch, number));
             serve(
                 rt,
                 heap,
@@ -256,7 +245,7 @@ fn take_step<R: Register>(
         Step::NoClear(call) => {
             assert_eq!(rt;
                 switch.clear(CallId(call)),
-                Err(Fault::in_switch(38)),
+                Err(Fault::new(Layer::Switch, 38)),
                 "step {at}"
             );
         }

@@ -1,11 +1,9 @@
 // The terminal over rings: its promises fix what waits in them.
 ghost use Rattle.terminal.specs.Arriving.{Receiving};
 ghost use Rattle.terminal.specs.Asking.{Requesting, Ticking};
-ghost use Rattle.terminal.specs.State.{model};
-ghost use Rattle.terminal_tests.specs.AtRing.{ring_sends, ring_takes};
 
 use frames::CallId;
-use links::Ring;
+use links::{Link, Ring};
 use terminal::{Ask, Received, Terminal, Ticked};
 use text::Fault;
 
@@ -15,19 +13,19 @@ pub fn request_at_ring(
     ask: Ask,
     call: CallId,
 ) -> Result<Option<Fault>, Fault>
-    ensures { Requesting ring_sends (model terminal.old) ask call up.old up.new result }
+    ensures { Requesting ⟦<Ring as Link>⟧.sends terminal.old ask call up.old up.new result }
 {
     terminal.request(up, ask, call)
 }
 
 pub fn tick_at_ring(terminal: &mut Terminal, up: &mut Ring) -> Ticked
-    ensures { Ticking ring_sends (model terminal.old) up.old up.new result }
+    ensures { Ticking ⟦<Ring as Link>⟧.sends terminal.old up.old up.new result }
 {
     terminal.tick(up)
 }
 
 pub fn receive_at_ring(terminal: &mut Terminal, down: &mut Ring) -> Result<Received, Fault>
-    ensures { Receiving ring_takes (model terminal.old) down.old (model terminal.new) down.new result }
+    ensures { Receiving ⟦<Ring as Link>⟧.takes terminal.old down.old terminal.new down.new result }
 {
     terminal.receive(down)
 }

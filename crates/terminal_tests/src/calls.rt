@@ -1,20 +1,25 @@
 // Connecting.
-use crate::steps::expect_told;
+use crate::steps::{expect_told, ring_of};
 use frames::{Body, CallId, News};
-use links::Ring;
 use std::test::Fail;
 use terminal::{Received, Terminal};
-use text::Fault;
+use text::{Fault, Layer};
 
 // Fault 24 is checked before 25.
 #[test]
 fn eight_calls_and_a_ninth(rt: HostRuntime) -> Result<(), Fail> {
     let mut terminal = Terminal::new(rt.alloc())?;
-    for id in 1..9u16 {
+    for id in 1..=8u16 {
         assert_eq!(rt; terminal.connect(CallId(id)), Ok(()));
     }
-    assert_eq!(rt; terminal.connect(CallId(9)), Err(Fault::in_terminal(25)));
-    assert_eq!(rt; terminal.connect(CallId(8)), Err(Fault::in_terminal(24)));
+    assert_eq!(rt;
+        terminal.connect(CallId(9)),
+        Err(Fault::new(Layer::Terminal, 25))
+    );
+    assert_eq!(rt;
+        terminal.connect(CallId(8)),
+        Err(Fault::new(Layer::Terminal, 24))
+    );
     assert_eq!(rt; terminal.calls().len(), 8);
     assert_eq!(rt; terminal.last_identifier(), 8);
     Ok(())
@@ -23,15 +28,18 @@ fn eight_calls_and_a_ninth(rt: HostRuntime) -> Result<(), Fail> {
 #[test]
 fn identifiers_in_range(rt: HostRuntime) -> Result<(), Fail> {
     let mut terminal = Terminal::new(rt.alloc())?;
-    assert_eq!(rt; terminal.connect(CallId(0)), Err(Fault::in_terminal(24)));
+    assert_eq!(rt;
+        terminal.connect(CallId(0)),
+        Err(Fault::new(Layer::Terminal, 24))
+    );
     assert_eq!(rt;
         terminal.connect(CallId(16_384)),
-        Err(Fault::in_terminal(24))
+        Err(Fault::new(Layer::Terminal, 24))
     );
     assert_eq!(rt; terminal.connect(CallId(16_383)), Ok(()));
     assert_eq!(rt;
         terminal.connect(CallId(16_383)),
-        Err(Fault::in_terminal(24))
+        Err(Fault::new(Layer::Terminal, 24))
     );
     assert_eq!(rt; terminal.calls().len(), 1);
     Ok(())
@@ -41,7 +49,7 @@ fn identifiers_in_range(rt: HostRuntime) -> Result<(), Fail> {
 #[test]
 fn a_released_identifier_is_not_accepted_again(rt: HostRuntime) -> Result<(), Fail> {
     let mut terminal = Terminal::new(rt.alloc())?;
-    let mut down = Ring::new(vec![in rt.alloc(); 0; 64]?);
+    let mut down = ring_of(rt.alloc(), 64)?;
     assert_eq!(rt; terminal.connect(CallId(5)), Ok(()));
     expect_told(
         &rt,
@@ -53,7 +61,10 @@ fn a_released_identifier_is_not_accepted_again(rt: HostRuntime) -> Result<(), Fa
         Ok(Received::Notice(CallId(5), News::Released)),
     )?;
     assert_eq!(rt; terminal.calls().len(), 0);
-    assert_eq!(rt; terminal.connect(CallId(5)), Err(Fault::in_terminal(24)));
+    assert_eq!(rt;
+        terminal.connect(CallId(5)),
+        Err(Fault::new(Layer::Terminal, 24))
+    );
     assert_eq!(rt; terminal.connect(CallId(6)), Ok(()));
     Ok(())
 }

@@ -1,11 +1,11 @@
 // Each outcome of a frame received.
-use crate::steps::{expect_sent, expect_told};
+use crate::steps::{expect_sent, expect_told, ring_of};
 use frames::{Body, CallId, Cause, News, Operation, Verdict};
-use links::{Link, Ring};
+use links::Link;
 use std::process::Abort;
 use std::test::Fail;
 use terminal::{Ask, Call, Received, Reply, Terminal};
-use text::Fault;
+use text::{Fault, Layer};
 
 const GRANTED_HOLD: Body = Body::Answer(Operation::Hold, Verdict::Granted);
 
@@ -21,35 +21,25 @@ fn marks(rt: &impl Abort, terminal: &Terminal, own: bool, other: bool) {
 #[test]
 fn refused_frames(rt: HostRuntime) -> Result<(), Fail> {
     let mut terminal = Terminal::new(rt.alloc())?;
-    let mut down = Ring::new(vec![in rt.alloc(); 0; 64]?);
+    let mut down = ring_of(rt.alloc(), 64)?;
     assert_eq!(rt; down.send(&[0x10]), Ok(()));
-    assert_eq!(rt; terminal.receive(&mut down), Err(Fault::in_frame(11, 1)));
-    expect_told(
-        &rt,
-        &mut terminal,
-        &mut down,
-        false,
-        5,
-        Body::Request(Operation::Hold),
-        Err(Fault::in_terminal(26)),
-    )?;
-    expect_told(
-        &rt,
-        &mut terminal,
-        &mut down,
-        false,
-        5,
-        Body::ClearRequest,
-        Err(Fault::in_terminal(26)),
-    )
+    assert_eq!(rt;
+        terminal.receive(&mut down),
+        Err(Fault::at(Layer::Frame, 11, 1))
+    );
+    for body in [Body::Request(Operation::Hold), Body::ClearRequest] {
+        let refused = Err(Fault::new(Layer::Terminal, 26));
+        expect_told(&rt, &mut terminal, &mut down, false, 5, body, refused)?;
+    }
+    Ok(())
 }
 
 // An answer counts if the bit, the call and the request agree.
 #[test]
 fn answers(rt: HostRuntime) -> Result<(), Fail> {
     let mut terminal = Terminal::new(rt.alloc())?;
-    let mut up = Ring::new(vec![in rt.alloc(); 0; 64]?);
-    let mut down = Ring::new(vec![in rt.alloc(); 0; 64]?);
+    let mut up = ring_of(rt.alloc(), 64)?;
+    let mut down = ring_of(rt.alloc(), 64)?;
     assert_eq!(rt; terminal.connect(CallId(5)), Ok(()));
     expect_told(
         &rt,
@@ -61,33 +51,14 @@ fn answers(rt: HostRuntime) -> Result<(), Fail> {
         Ok(Received::Stale),
     )?;
     assert_eq!(rt; terminal.request(&mut up, Ask::Hold, CallId(5)), Ok(None));
-    expect_told(
-        &rt,
-        &mut terminal,
-        &mut down,
-        true,
-        5,
-        GRANTED_HOLD,
-        Ok(Received::Stale),
-    )?;
-    expect_told(
-        &rt,
-        &mut terminal,
-        &mut down,
-        false,
-        6,
-        GRANTED_HOLD,
-        Ok(Received::Stale),
-    )?;
-    expect_told(
-        &rt,
-        &mut terminal,
-        &mut down,
-        false,
-        5,
-        Body::ClearAnswer,
-        Ok(Received::Stale),
-    )?;
+    for (exchange, call, body) in [
+        (true, 5u16, GRANTED_HOLD),
+        (false, 6, GRANTED_HOLD),
+        (false, 5, Body::ClearAnswer),
+    ] {
+        let stale = Ok(Received::Stale);
+        expect_told(&rt, &mut terminal, &mut down, exchange, call, body, stale)?;
+    }
     marks(&rt, &terminal, false, false);
     expect_told(
         &rt,
@@ -121,8 +92,8 @@ fn answers(rt: HostRuntime) -> Result<(), Fail> {
 #[test]
 fn declined_and_cleared(rt: HostRuntime) -> Result<(), Fail> {
     let mut terminal = Terminal::new(rt.alloc())?;
-    let mut up = Ring::new(vec![in rt.alloc(); 0; 64]?);
-    let mut down = Ring::new(vec![in rt.alloc(); 0; 64]?);
+    let mut up = ring_of(rt.alloc(), 64)?;
+    let mut down = ring_of(rt.alloc(), 64)?;
     for (id, exchange, cause, left) in [
         (5u16, false, Cause::LimitReached, 1usize),
         (6, true, Cause::CallNotThere, 1),
@@ -160,8 +131,8 @@ fn declined_and_cleared(rt: HostRuntime) -> Result<(), Fail> {
 #[test]
 fn notices(rt: HostRuntime) -> Result<(), Fail> {
     let mut terminal = Terminal::new(rt.alloc())?;
-    let mut up = Ring::new(vec![in rt.alloc(); 0; 64]?);
-    let mut down = Ring::new(vec![in rt.alloc(); 0; 64]?);
+    let mut up = ring_of(rt.alloc(), 64)?;
+    let mut down = ring_of(rt.alloc(), 64)?;
     assert_eq!(rt; terminal.connect(CallId(5)), Ok(()));
     expect_told(
         &rt,
@@ -216,8 +187,8 @@ fn notices(rt: HostRuntime) -> Result<(), Fail> {
 #[test]
 fn retrievals_declined(rt: HostRuntime) -> Result<(), Fail> {
     let mut terminal = Terminal::new(rt.alloc())?;
-    let mut up = Ring::new(vec![in rt.alloc(); 0; 64]?);
-    let mut down = Ring::new(vec![in rt.alloc(); 0; 64]?);
+    let mut up = ring_of(rt.alloc(), 64)?;
+    let mut down = ring_of(rt.alloc(), 64)?;
     let call = CallId(5);
     assert_eq!(rt; terminal.connect(call), Ok(()));
     assert_eq!(rt; terminal.request(&mut up, Ask::Hold, call), Ok(None));
@@ -233,7 +204,7 @@ fn retrievals_declined(rt: HostRuntime) -> Result<(), Fail> {
     )?;
     assert_eq!(rt;
         terminal.request(&mut up, Ask::Hold, call),
-        Err(Fault::in_terminal(23))
+        Err(Fault::new(Layer::Terminal, 23))
     );
     for (exchange, cause) in [
         (true, Cause::NoChannel),

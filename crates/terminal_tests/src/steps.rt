@@ -1,22 +1,27 @@
-// Frames put into a link, and taken out of it.
+// Rings, and frames put into a link and taken out of it.
 use frames::{Body, CallId, Frame, read, write};
-use links::Link;
+use links::{Link, Ring};
+use std::alloc::{AllocError, Global};
 use std::process::Abort;
 use std::test::Fail;
 use terminal::{Received, Terminal};
 use text::Fault;
 
-// The next frame, read.
+// One of 8 bytes refuses every frame.
+pub fn ring_of(heap: Global, bytes: usize) -> Result<Ring, AllocError> {
+    Ok(Ring::new(vec![in heap; 0; bytes]?))
+}
+
+// The next frame, read: not by `pull`, which the terminal's own calls go by.
 fn next_frame<L: Link>(link: &mut L) -> Result<Option<Frame>, Fault> {
     let mut memory = [0u8; 32];
     let Some(n) = link.take(&mut memory)? else {
         return Ok(None);
     };
-    let frame = read(&memory[0..n])?;
-    Ok(Some(frame))
+    read(&memory[..n]).map(Some)
 }
 
-// One frame was sent, which says this.
+// One frame was sent, which says this. Its three parts stand apart here and below, as they are no longer than a `Frame` of them.
 pub fn expect_sent<L: Link>(rt: &impl Abort, up: &mut L, exchange: bool, call: u16, body: Body) {
     let call = CallId(call);
     assert_eq!(rt;
