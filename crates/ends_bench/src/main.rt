@@ -1,6 +1,7 @@
 // Has a terminal's requests served by a switch over rings, and tells the time that it took: the proved side of bench/ends.sh.
 #![tactic(auto)]
 
+use anyhow::Context;
 use frames::CallId;
 use links::Ring;
 use register::{General, User};
@@ -23,8 +24,8 @@ struct Bench {
 
 // A switch with a limit of 7 and 128 channels; that of stack_probe too: the two programs have no crate in common that makes one.
 fn a_switch(heap: Global) -> anyhow::Result<Switch<General>> {
-    let register = General::new(7)?;
-    let parts = Parts::new(heap, 128)?;
+    let register = General::new(7).ok().context("no register")?;
+    let parts = Parts::new(heap, 128).ok().context("no parts")?;
     Ok(Switch::new(register, parts))
 }
 

@@ -3,11 +3,17 @@ ghost use Rattle.std.specs.Prelude.{refl, ◌≡◌, ◌+◌, ◌≤◌};
 ghost use Rattle.text.specs.Hex.{pair};
 ghost use Rattle.links.specs.Line.{Rest, NextByte, in_lines};
 ghost use Rattle.links.specs.LineLaws.{lawful};
+ghost use Rattle.links.specs.Packing.{frames};
 ghost use Rattle.links.specs.Queue.{held, Joined};
+ghost use Rattle.links.specs.SoundFrames;
+ghost use Rattle.links.specs.Store.{Stores, HandsOut};
+ghost use Rattle.links.specs.Stores.{stores_sent, hands_taken};
 
+use crate::link::{Link, Longest};
 use crate::packing::Packing;
 use crate::queue::ByteQueue;
 use crate::stored::Stored;
+use text::Fault;
 
 // Its longest frame is 32 bytes; a frame costs twice its length and 1.
 pub type Line = Stored<InLines>;
@@ -69,5 +75,39 @@ impl Packing for InLines {
             n += 1;
         }
         n
+    }
+}
+
+impl Link for Line {
+    const LONGEST: Longest = Longest { bytes: 32 };
+
+    ghost longest = { 32 };
+
+    ghost waits = { λ a. frames in_lines a.queue };
+
+    ghost sends = { λ a f b r. Stores in_lines a.queue f b.queue r };
+
+    ghost takes = { λ a m b n r. HandsOut in_lines a.queue m b.queue n r };
+
+    ghost low = { lawful.low };
+
+    ghost high = { lawful.high };
+
+    ghost framed = { λ a. SoundFrames.framed in_lines (frames in_lines a.queue) lawful.high a.packed.framed };
+
+    ghost sent = { λ a f b r k. stores_sent in_lines a.queue f b.queue r k };
+
+    ghost taken = { λ a m b n r k. hands_taken in_lines a.queue m b.queue n r a.packed.framed k };
+
+    fn longest_frame() -> usize {
+        Self::LONGEST.bytes
+    }
+
+    fn send(&mut self, frame: &[u8]) -> Result<(), Fault> {
+        self.enqueue(frame)
+    }
+
+    fn take(&mut self, out: &mut [u8]) -> Result<Option<usize>, Fault> {
+        self.dequeue(out)
     }
 }

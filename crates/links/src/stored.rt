@@ -1,14 +1,11 @@
-// A link over a queue of bytes, at any packing of frames: an accepted frame waits once and is handed out once.
+// What the ring and the line do with their queue of bytes, at any packing of frames: an accepted frame waits once and is handed out once.
 ghost use Rattle.std.specs.Prelude.{◌≡◌, ◌-◌, ◌≤◌, false, [], ◌∷◌, ◌++◌, vec_len};
 ghost use Rattle.links.specs.Checks.{unfit, short};
 ghost use Rattle.links.specs.Packing.{Packed, costs, frames};
 ghost use Rattle.links.specs.Queue.{room, SameMemory};
-ghost use Rattle.links.specs.SoundFrames;
 ghost use Rattle.links.specs.Store.{Stores, HandsOut};
-ghost use Rattle.links.specs.Stores.{stores_sent, hands_taken};
 
 use crate::checks;
-use crate::link::{Link, Longest};
 use crate::packing::Packing;
 use crate::queue::ByteQueue;
 use crate::refusal::Refusal;
@@ -69,36 +66,12 @@ impl<P: Packing> Stored<P> {
         }
         Some(P::get(&mut self.queue, out))
     }
-}
 
-impl<P: Packing> Link for Stored<P> {
-    const LONGEST: Longest = Longest { bytes: P::LONGEST };
-
-    ghost longest = { P.packing.longest };
-
-    ghost waits = { λ a. frames P.packing a.queue };
-
-    ghost sends = { λ a f b r. Stores P.packing a.queue f b.queue r };
-
-    ghost takes = { λ a m b n r. HandsOut P.packing a.queue m b.queue n r };
-
-    ghost low = { P.lawful.low };
-
-    ghost high = { P.lawful.high };
-
-    ghost framed = { λ a. SoundFrames.framed P.packing (frames P.packing a.queue) P.lawful.high a.packed.framed };
-
-    ghost sent = { λ a f b r k. stores_sent P.packing a.queue f b.queue r k };
-
-    ghost taken = { λ a m b n r k. hands_taken P.packing a.queue m b.queue n r a.packed.framed k };
-
-    fn longest_frame() -> usize {
-        P::LONGEST
-    }
-
-    // The frame then waits once, after the others.
+    // One frame more, after the others.
     // Faults: 41 for a frame that is empty or over the longest; 43 where it costs more than is free. A fault changes nothing.
-    fn send(&mut self, frame: &[u8]) -> Result<(), Fault> {
+    pub(crate) fn enqueue(&mut self, frame: &[u8]) -> Result<(), Fault>
+        ensures { Stores P.packing self.old.queue frame.now self.new.queue result }
+    {
         checks::check_frame(frame, P::LONGEST)?;
         if P::cost(frame) > self.free() {
             return Err(Refusal::Declined.into());
@@ -109,7 +82,9 @@ impl<P: Packing> Link for Stored<P> {
 
     // The first of the frames that wait, or nothing if none does.
     // Fault 42 for fewer than 32 bytes; it changes nothing.
-    fn take(&mut self, out: &mut [u8]) -> Result<Option<usize>, Fault> {
+    pub(crate) fn dequeue(&mut self, out: &mut [u8]) -> Result<Option<usize>, Fault>
+        ensures { HandsOut P.packing self.old.queue out.old self.new.queue out.new result }
+    {
         checks::check_taking(out)?;
         Ok(self.get(out))
     }

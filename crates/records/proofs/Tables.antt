@@ -250,3 +250,13 @@ held_without u = sum_without (held_by u) (λ r. one (is_on_hold (standing u r)))
 pub held_added : (u : ℕ) (rs : List Record) (r : Record) → held_by u (rs ++ r ∷ []) ≡ held_by u rs + one (is_on_hold (standing u r))
 unfolding held_by
 held_added u = sum_added (held_by u) (λ r. one (is_on_hold (standing u r))) refl (λ _ _. refl)
+
+-- a call's record has no more on hold than its user has in all
+pub held_within : (u c : ℕ) (rs : List Record) (r : Record) → find c rs ≡ Some r → one (is_on_hold (standing u r)) ≤ held_by u rs
+unfolding find held_by
+held_within u c [] r e = let z : ◌≡◌ {A = ℕ} 0 1 = cc in absurd (omega arith)
+held_within u c (x ∷ rs) r e = go (eqb x.id.0 c) e (held_within u c rs r)
+  where
+    go : (b : Bool) → cond b (Some x) (find c rs) ≡ Some r → (find c rs ≡ Some r → one (is_on_hold (standing u r)) ≤ held_by u rs) → one (is_on_hold (standing u r)) ≤ one (is_on_hold (standing u x)) + held_by u rs
+    go true e ih = let s : x ≡ r = cc in omega (arith, ap (λ y. one (is_on_hold (standing u y))) s)
+    go false e ih = omega (arith, ih e)

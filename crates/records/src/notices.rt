@@ -19,8 +19,9 @@ fn better(one: Option<Notice>, other: Option<Notice>) -> Option<Notice>
     ensures { result ≡ better one other }
 {
     match (one, other) {
+        (None, other) => other,
         (Some(p), Some(q)) if p.news < q.news => Some(q),
-        (one, other) => one.or(other),
+        (one, _) => one,
     }
 }
 

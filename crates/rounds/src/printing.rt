@@ -6,7 +6,8 @@ use books::Books;
 use law::Event;
 use pair::Call;
 use register::User;
-use std::alloc::Global;
+use std::alloc::{AllocError, Global};
+use terminal::Terminal;
 use waiting::waiting_line;
 use wording::{Command, Outcome};
 
@@ -24,33 +25,33 @@ const SETTING: Setting = Setting {
 fn books_of(heap: Global, events: &[Event]) -> anyhow::Result<Books> {
     let mut books = Books::new(heap, OWN);
     for event in events {
-        books.note(event).context("the books cannot be kept")?;
+        books.note(event).ok().context("the books cannot be kept")?;
     }
     Ok(books)
 }
 
-// The three sums.
+// The call that the open request names.
+fn request_text(heap: Global, terminal: &Terminal) -> Result<String, AllocError> {
+    match terminal.open_request() {
+        Some(request) => format!(in heap; "{}", request.call),
+        None => format!(in heap; "none"),
+    }
+}
+
+// The three sums, in one piece: (a) the calls on which the ends differ, and the one that the open request names; (b) the user's calls on
+// hold, beside what was granted and cleared, and his limit; (c) the channels in use, beside the legs not on hold, and how many there are.
 fn print_sums(rt: &HostRuntime, round: &Round) -> anyhow::Result<()> {
     let books = books_of(rt.alloc(), round.events.as_slice())?;
     let terminal = round.pair.terminal();
     let switch = round.pair.switch();
-    // (a): the calls on which the ends differ, and the call that the open request names.
-    print!(rt; "   differ {}", books.differing(terminal.calls()))?;
-    match terminal.open_request() {
-        Some(request) => print!(rt; " request {}", request.call)?,
-        None => print!(rt; " request none")?,
-    }
-    // (b): the user's calls on hold, beside what was granted and cleared, and his limit.
-    print!(rt;
-        " held {} granted {} retrieved {} cleared {} limit {LIMIT}",
+    println!(rt;
+        "   differ {} request {} held {} granted {} retrieved {} cleared {} limit {LIMIT} used {} legs {} size {}",
+        books.differing(terminal.calls()),
+        request_text(rt.alloc(), terminal)?,
         books.held(),
         books.granted(),
         books.retrieved(),
-        books.cleared()
-    )?;
-    // (c): the channels in use, beside the legs not on hold, and how many there are.
-    println!(rt;
-        " used {} legs {} size {}",
+        books.cleared(),
         switch.channels_in_use(),
         books.legs(),
         switch.channels()
@@ -77,7 +78,8 @@ fn print_line(rt: &HostRuntime, round: &Round) -> anyhow::Result<()> {
 
 // Plays the calls on a fresh pair, and prints the last of them.
 pub(crate) fn print_after(rt: &HostRuntime, calls: &[Call]) -> anyhow::Result<()> {
-    let round = play_fresh(rt.alloc(), SETTING, calls).context("no pair can be made")?;
+    let played = play_fresh(rt.alloc(), SETTING, calls);
+    let round = played.ok().context("no pair can be made")?;
     let Some(&event) = round.events.last() else {
         return Ok(());
     };

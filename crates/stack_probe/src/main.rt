@@ -1,6 +1,7 @@
 // Makes every call of both ends and of the waiting line at its deepest, each from a function of its own: what bench/stack.sh looks into.
 #![tactic(auto)]
 
+use anyhow::Context;
 use frames::CallId;
 use links::{Faulty, Line, Link, Ring};
 use register::{General, User};
@@ -11,8 +12,8 @@ use waiting::waiting_line;
 
 // The switch of ends_bench too: the two programs have no crate in common that makes one.
 fn make_switch(heap: Global) -> anyhow::Result<Switch<General>> {
-    let register = General::new(7)?;
-    let parts = Parts::new(heap, 128)?;
+    let register = General::new(7).ok().context("no register")?;
+    let parts = Parts::new(heap, 128).ok().context("no parts")?;
     Ok(Switch::new(register, parts))
 }
 

@@ -14,7 +14,7 @@ use Rattle.register.specs.declared.user.User.{User}
 use Rattle.links.specs.Meaning.{SendAnswer}
 use Rattle.records.proofs.Tables.{change_none, cut, find_changed, find_none, find_range, found, length_change, placed_none, placed_some, rising_change, rising_without, wrote}
 use Rattle.records.specs.Changes.{change, connected_call, connected_if, find, for_user, hushed, is_spent, put_on_hold, retrieved, retrieved_if, without}
-use Rattle.records.specs.Legs.{channels, leg_on, side_of, standing, standing_in}
+use Rattle.records.specs.Legs.{channels, leg_on, side_of, standing, standing_in, stands}
 use Rattle.records.specs.Notices.{Best, news_in}
 use Rattle.records.specs.Questions.{place, placed, rising}
 use Rattle.records.specs.declared.legs.Record.{Record}
@@ -29,7 +29,7 @@ use Rattle.text.specs.Fault.{in_switch, unless}
 use Rattle.text.specs.declared.fault.Fault.{Fault}
 use Rattle.switch.specs.Opening.{open_checked}
 use Rattle.switch.specs.Answer.{answer}
-use Rattle.switch.specs.Clearing.{channels_in, freeing}
+use Rattle.switch.specs.Clearing.{channels_in, freeing, takes_part}
 use Rattle.switch.specs.Notifying.{can_be_sent, notice_frame, spent, tidied}
 use Rattle.switch.specs.Serving.{retrieve_verdict, retrieves, standing_at}
 use Rattle.switch.specs.State.{Model, model, with_records}
@@ -99,11 +99,11 @@ leg_there b u c i s r e v =
 abbrev pub Facts : Board → List Record → Type 0
 Facts b rs = record {
   few_sessions : vec_len b.sessions ≤ 32;
-  seats : 32 ≤ vec_capacity b.sessions;
+  seats : vec_capacity b.sessions ≡ 32;
   users : apart (vec_items b.sessions) ≡ true;
   answers : all_answerable (vec_items b.sessions) ≡ true;
   few_records : vec_len b.records ≤ 64;
-  room : 64 ≤ vec_capacity b.records;
+  room : vec_capacity b.records ≡ 64;
   ids : rising b.last rs ≡ true;
   top : b.last ≤ 16383;
 }
@@ -131,6 +131,24 @@ ended_nowhere m c f h =
 
 pub ended_for : (m : Model) (u c i k s : ℕ) (f : Side → Record → Record) (d : Side) (r x : Record) → At m c i r → side_of u r ≡ Some d → x ≡ f d r → k ≡ m.used - channels r → s ≡ m.size → board_with m (set m.records i x) k s ≡ freeing (for_user f u) c m
 ended_for m u c i k s f d r x a side is less same = ended_at m c i k s (for_user f u) r x a (is ∙ sym (for_party f u r d side)) less same
+
+-- a user who stands in a call has a side in it
+no_side : (u : ℕ) (r : Record) → side_of u r ≡ None → takes_part (standing u r) ≡ true → ⊥
+no_side u r e h = go r.live (side_of u r) e h
+  where
+    go : (l : Bool) (o : Option Side) → o ≡ None → takes_part (stands l o r) ≡ true → ⊥
+    go false o e h = clash h
+    go true None e h = clash h
+    go true (Some s) e h = let z : ◌≡◌ {A = ℕ} 0 1 = cc in omega arith
+
+pub party_side : (m : Model) (u c i : ℕ) (r : Record) → At m c i r → takes_part (standing_at m u c) ≡ true → side_of u r ≡ None → ⊥
+party_side m u c i r a h e = no_side u r e (sym (ap (λ o. takes_part (standing_in u o)) (at_found m c i r a)) ∙ h)
+
+pub held_no_side : (m : Model) (u c i : ℕ) (r : Record) → At m c i r → standing_at m u c ≡ Talking → side_of u r ≡ None → ⊥
+held_no_side m u c i r a talking e = party_side m u c i r a (ap takes_part talking) e
+
+pub nowhere : (m : Model) (u c : ℕ) → length m.records ≤ place c m.records → takes_part (standing_at m u c) ≡ true → ⊥
+nowhere m u c h t = clash (sym (ap (λ o. takes_part (standing_in u o)) (find_none c m.records h)) ∙ t)
 
 stands_so : (m : Model) (u c i : ℕ) (r : Record) → At m c i r → standing_at m u c ≡ standing u r
 stands_so m u c i r a = ap (standing_in u) (at_found m c i r a)

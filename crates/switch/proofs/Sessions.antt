@@ -1,5 +1,5 @@
 -- Laws of the list of sessions: the session at a user's place, and what a written one leaves. Assumes nothing.
-use Rattle.std.proofs.Common.{◌≡◌, ℕ, ◌<◌, ◌≤◌, true, cond, List, [], ◌∷◌, length, set, Some, None, Ok, sym, refl, ap, ◌∙◌, subst, arith}
+use Rattle.std.proofs.Common.{◌≡◌, ℕ, suc, ◌+◌, ◌<◌, ◌≤◌, Bool, true, false, cond, List, [], ◌∷◌, length, get_or, set, Some, None, Ok, sym, refl, ap, ◌∙◌, subst, add-one, arith}
 use Rattle.std.proofs.lemmas.Bool.Decides.{nat_tests}
 use Rattle.std.proofs.lemmas.Grind.{common_steps}
 use Rattle.std.specs.List.{position_or_len}
@@ -25,6 +25,19 @@ pub session_none : (u : ℕ) (ss : List Session) → length ss ≤ session_place
 unfolding session
 session_none u [] h = refl
 session_none u (s ∷ ss) h = let ih = session_none u ss in grind (arith, nat_tests, ih)
+
+-- the session at the place is the one found
+session_at : (u : ℕ) (ss : List Session) (d : Session) → session_place u ss < length ss → session u ss ≡ Some (get_or ss (session_place u ss) d)
+unfolding session
+session_at u [] d h = absurd (omega arith)
+session_at u (s ∷ ss) d h = go (same s.user.0 u) h (session_at u ss d)
+  where
+    go : (b : Bool) → cond b 0 (session_place u ss + 1) < suc (length ss) → (session_place u ss < length ss → session u ss ≡ Some (get_or ss (session_place u ss) d)) → cond b (Some s) (session u ss) ≡ Some (get_or (s ∷ ss) (cond b 0 (session_place u ss + 1)) d)
+    go true h ih = refl
+    go false h ih = rw add-one (ih (omega arith))
+
+pub session_found : (u i : ℕ) (ss : List Session) (s : Session) → i ≡ session_place u ss → i < length ss → s ≡ get_or ss i s → session u ss ≡ Some s
+session_found u i ss s at lt e = session_at u ss s (subst (λ k. k < length ss) at lt) ∙ ap (λ k. Some (get_or ss k s)) (sym at) ∙ ap (λ x. Some x) (sym e)
 
 -- noting what came of a request: where the user has no session, and where he has one
 noted_absent : (n : Session) (ss : List Session) → session n.user.0 ss ≡ None → noted n ss ≡ ss

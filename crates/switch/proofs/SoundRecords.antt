@@ -1,5 +1,5 @@
 -- What a change, an added and a removed record leave of the laws of records. Assumes nothing.
-use Rattle.std.proofs.Common.{◌≡◌, ℕ, Bool, true, false, cond, eqb, List, [], ◌∷◌, ◌++◌, Some, None, refl, ap, ◌∙◌, subst, arith}
+use Rattle.std.proofs.Common.{◌≡◌, ℕ, suc, ◌≤◌, Bool, true, false, cond, eqb, List, [], ◌∷◌, ◌++◌, length, Some, None, refl, ap, ◌∙◌, subst, arith}
 use Rattle.std.proofs.lemmas.Bool.Decides.{nat_tests}
 use Rattle.std.proofs.lemmas.Bool.{and_parts, and_from, eqb-true}
 use Rattle.records.proofs.Tables.{rise_rest, change_above}
@@ -59,6 +59,15 @@ pub change_missing : (c : ℕ) (f : Record → Record) (rs : List Record) → fi
 unfolding find change
 change_missing c f [] e = refl
 change_missing c f (r ∷ rs) e = let ih = change_missing c f rs in grind (arith, nat_tests, ih)
+
+pub length_without : (c : ℕ) (rs : List Record) → length (without c rs) ≤ length rs
+unfolding without
+length_without c [] = omega arith
+length_without c (r ∷ rs) = go (eqb r.id.0 c) (length_without c rs)
+  where
+    go : (b : Bool) → length (without c rs) ≤ length rs → length (cond b (without c rs) (r ∷ without c rs)) ≤ suc (length rs)
+    go true ih = omega arith
+    go false ih = omega arith
 
 -- a cleared call has no channels, so the channels are those of the legs not on hold in live calls
 pub bare_channels : (ss : List Session) (r : Record) → r.live ≡ false → Lawful ss r → channels r ≡ 0

@@ -1,9 +1,13 @@
 -- Serving keeps what holds of a switch's state, and the limits. Assumes nothing.
 use Rattle.std.proofs.Common.{◌≡◌, ℕ, ◌+◌, ◌-◌, ◌≤◌, Bool, true, false, eqb, leb, List, Some, None, Ok, Err, Option, Result, refl, ap, subst, arith}
 use mathlib.Core.Bool.{beq}
+use Rattle.std.proofs.lemmas.Bool.{and_from, not_from_false}
 use Rattle.std.proofs.lemmas.Bool.Decides.{nat_tests}
+use Rattle.frames.specs.Layout.{no_call}
+use Rattle.frames.specs.declared.content.Body.TheVariants.{Answer}
 use Rattle.frames.specs.declared.content.CallId.{CallId}
 use Rattle.frames.specs.declared.content.Frame.{Frame}
+use Rattle.frames.specs.declared.content.Operation.TheVariants.{Hold, Retrieve}
 use Rattle.links.specs.Meaning.{SendAnswer, TakeAnswer}
 use Rattle.register.specs.declared.user.User.{User}
 use Rattle.records.proofs.Tables.{channels_within}
@@ -14,12 +18,14 @@ use Rattle.records.specs.declared.legs.Record.{Record}
 use Rattle.records.specs.declared.legs.Standing.{Standing}
 use Rattle.records.specs.declared.legs.Standing.TheVariants.{Absent, Talking, OnHold}
 use Rattle.signalling.specs.Ask.{ask_of}
+use Rattle.signalling.specs.Writable.{lists}
 use Rattle.signalling.specs.declared.ask.Ask.{Ask}
 use Rattle.signalling.specs.declared.ask.Ask.TheVariants as ask
 use Rattle.text.specs.declared.fault.Fault.{Fault}
 use Rattle.switch.specs.Clearing.{channels_in, freeing, party_clears, takes_part}
 use Rattle.switch.specs.Serving.{Acts, Serves, Serving, ServingBy, by_bit, carry_asked, effect, effect_of, handled_by, handled_of, hold_verdict, holds, noted, on_hold, on_retrieve, retrieve_verdict, retrieves, serve_checked, state_of}
 use Rattle.switch.specs.State.{Model, with_records, with_sessions}
+use Rattle.switch.specs.Tables.{answerable}
 use Rattle.switch.specs.declared.session.Session.{Session}
 use Rattle.switch.specs.declared.told.Handled.{Handled}
 use Rattle.switch.specs.declared.told.Served.{Served}
@@ -103,6 +109,25 @@ pub kept_state : (limit : ℕ → ℕ) (m : Model) (u : ℕ) (c : CallId) (k : A
 kept_state limit m u c ask.Hold h seat = kept_holds limit m u c.0 h seat
 kept_state limit m u c ask.Retrieve h seat = kept_retrieves limit m u c.0 h
 kept_state limit m u c ask.Clear h seat = kept_party_clears limit m u c.0 h
+
+-- the verdicts have causes that their operation lists
+hold_listed : (s : Standing) (none full : Bool) → lists (Answer Hold (hold_verdict s none full)) ≡ true
+hold_listed Absent none full = refl
+hold_listed OnHold none full = refl
+hold_listed Talking true full = refl
+hold_listed Talking false true = refl
+hold_listed Talking false false = refl
+
+retrieve_listed : (s : Standing) (full : Bool) → lists (Answer Retrieve (retrieve_verdict s full)) ≡ true
+retrieve_listed Absent full = refl
+retrieve_listed Talking full = refl
+retrieve_listed OnHold true = refl
+retrieve_listed OnHold false = refl
+
+pub handled_answerable : (limit : ℕ) (m : Model) (u : ℕ) (c : CallId) (k : Ask) → no_call c.0 ≡ false → answerable (Some (handled_of limit m u c k)) ≡ true
+handled_answerable limit m u c ask.Hold n = and_from _ _ (not_from_false _ n) (hold_listed (standing_in u (find c.0 m.records)) (eqb limit 0) (leb limit (held_by u m.records)))
+handled_answerable limit m u c ask.Retrieve n = and_from _ _ (not_from_false _ n) (retrieve_listed (standing_in u (find c.0 m.records)) (eqb m.used m.size))
+handled_answerable limit m u c ask.Clear n = and_from _ _ (not_from_false _ n) refl
 
 -- whom the switch serves has a session
 served_seated : (m : Model) (u : User) (s : Session) → serve_checked m u ≡ Ok s → seated u.0 m.sessions ≡ true

@@ -1,5 +1,5 @@
 -- What opening and noting leave of the sessions: who has one, that no two are one user's, and that each answer kept can be sent again. Assumes nothing.
-use Rattle.std.proofs.Common.{◌≡◌, ℕ, Bool, true, false, ◌||◌, List, [], ◌∷◌, ◌++◌, is_some, refl, ap, ◌∙◌, arith}
+use Rattle.std.proofs.Common.{◌≡◌, ℕ, suc, Bool, true, false, ◌||◌, List, [], ◌∷◌, ◌++◌, length, is_some, refl, ap, ◌∙◌, arith}
 use Rattle.std.proofs.lemmas.Bool.Decides.{nat_tests}
 use Rattle.register.specs.User.{same}
 use Rattle.switch.specs.Serving.{noted}
@@ -45,6 +45,11 @@ apart_noted n (s ∷ ss) =
     let ih = apart_noted n ss in
     let own = seated_noted s.user.0 n ss in
     grind (arith, nat_tests, ih, own)
+
+pub length_noted : (n : Session) (ss : List Session) → length (noted n ss) ≡ length ss
+unfolding noted
+length_noted n [] = refl
+length_noted n (s ∷ ss) = ap suc (length_noted n ss)
 
 pub answers_noted : (n : Session) (ss : List Session) → answerable n.handled ≡ true → all_answerable ss ≡ true → all_answerable (noted n ss) ≡ true
 unfolding noted all_answerable

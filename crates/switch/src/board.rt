@@ -27,11 +27,11 @@ pub(crate) struct Board {
     pub(crate) records: Vec<Record>,
     pub(crate) last: u16,
     ghost few_sessions: { vec_len sessions ≤ 32 },
-    ghost seats: { 32 ≤ vec_capacity sessions },
+    ghost seats: { vec_capacity sessions ≡ 32 },
     ghost users: { apart sessions.items ≡ true },
     ghost answers: { all_answerable sessions.items ≡ true },
     ghost few_records: { vec_len records ≤ 64 },
-    ghost room: { 64 ≤ vec_capacity records },
+    ghost room: { vec_capacity records ≡ 64 },
     ghost ids: { rising last records.items ≡ true },
     ghost top: { last ≤ 16383 },
 }

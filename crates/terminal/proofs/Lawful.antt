@@ -1,5 +1,5 @@
 -- The laws of receiving. Assumes nothing.
-use Rattle.std.proofs.Common.{◌≡◌, ℕ, ◌≤◌, Bool, true, false, cond, ◌&&◌, eqb, List, [], ◌∷◌, is_some, Some, None, Option, Result, sym, refl, ap, subst, arith, eqb-true}
+use Rattle.std.proofs.Common.{◌≡◌, ℕ, ◌≤◌, Bool, true, false, cond, ◌&&◌, eqb, List, [], ◌∷◌, is_some, Some, None, Ok, Err, Option, Result, sym, refl, ap, subst, arith, eqb-true}
 use mathlib.Core.Bool.{beq}
 use Rattle.std.proofs.lemmas.Bool.{and_parts}
 use Rattle.std.proofs.lemmas.Bool.Decides.{nat_tests}
@@ -9,12 +9,13 @@ use Rattle.frames.specs.declared.content.CallId.{CallId}
 use Rattle.frames.specs.declared.content.Cause.{Cause}
 use Rattle.frames.specs.declared.content.Frame.{Frame}
 use Rattle.frames.specs.declared.content.News.{News}
+use Rattle.links.specs.Meaning.{TakeAnswer}
 use Rattle.signalling.proofs.Asks.{same_asked}
 use Rattle.signalling.specs.Ask.{asked_by, same_ask}
 use Rattle.signalling.specs.declared.ask.Ask.{Ask}
 use Rattle.signalling.specs.declared.ask.Ask.TheVariants.{Clear}
 use Rattle.text.specs.declared.fault.Fault.{Fault}
-use Rattle.terminal.specs.Arriving.{reply_of, counts, heard, answered, effect_of, told_of, state_of, settled, after_cause, informed}
+use Rattle.terminal.specs.Arriving.{reply_of, counts, heard, answered, effect_of, told_of, state_of, settled, after_cause, informed, received, receives, Receiving}
 use Rattle.terminal.specs.Arriving.Effect.{stale, closed}
 use Rattle.terminal.specs.Calls.{rising_from, rising, find, mark, mark_other, without}
 use Rattle.terminal.specs.Laws.{shown, grants_by, KeptOpen, Closing, Lawful}
@@ -93,3 +94,15 @@ lawful_effect m f (Some q) ClearRequest h was = still refl
 lawful_effect m f (Some q) (notice_body w) h was = lawful_news m (find f.call.0 m.calls) f.call w h
 lawful_effect m f (Some q) (Answer o v) h was = lawful_answer m q (asked_by o) f (reply_of v) h was
 lawful_effect m f (Some q) ClearAnswer h was = lawful_answer m q Clear f Cleared h was
+
+lawful : (m : Model) (came : Result (Option Frame) Fault) → rising m.last m.calls ≡ true → Lawful m (receives m came) (received m came)
+lawful m (Err e) h = still refl
+lawful m (Ok None) h = still refl
+lawful m (Ok (Some f)) h = lawful_effect m f m.request f.body h refl
+
+-- receiving is lawful
+pub receiving_lawful : {X : Type 0} (takes : X → List ℕ → X → List ℕ → TakeAnswer → Type 0) (m : Model) (a : X) (n : Model) (b : X) (r : Result Received Fault) → rising m.last m.calls ≡ true → Receiving takes m a n b r → Lawful m n r
+receiving_lawful takes m a n b r h v =
+    let P : Model → Type 0 = λ x. Lawful m x r in
+    let Q : Result Received Fault → Type 0 = λ y. Lawful m (receives m v.came) y in
+    subst P (sym v.state) (subst Q (sym v.outcome) (lawful m v.came h))

@@ -19,9 +19,12 @@ asks_known m k c u h e = go (find c.0 m.calls) refl e
     go None is e = grind (arith, nat_tests)
     go (Some x) is e = let r = find_range c.0 0 m.last m.calls x h is in grind (arith, nat_tests)
 
+pub opened_known : (m : Model) (k : Ask) (c : CallId) (u : Unit) (q : Request) → rising m.last m.calls ≡ true → Ok u ≡ request_checked m k c → q ≡ opening k c → known m.last (Some q) ≡ true
+opened_known m k c u q h e is = ap (λ x. known m.last (Some x)) is ∙ asks_known m k c u h e
+
 pub opened_sound : (m n : Model) (k : Ask) (c : CallId) (u : Unit) (q : Request) → n ≡ m → Sound n.last n.calls n.request → Ok u ≡ request_checked m k c → q ≡ opening k c → Sound n.last n.calls (Some q)
 opened_sound m n k c u q same h e is =
-    record { ids = h.ids; top = h.top; asked = ap (λ x. known n.last (Some x)) is ∙ asks_known n k c u h.ids (e ∙ ap (λ x. request_checked x k c) (sym same)) }
+    record { ids = h.ids; top = h.top; asked = opened_known n k c u q h.ids (e ∙ ap (λ x. request_checked x k c) (sym same)) is }
 
 -- the call of an open request is one that a frame can carry
 pub asked_carried : (last : ℕ) (cs : List Call) (q : Request) → Sound last cs (Some q) → no_call q.call.0 ≡ false

@@ -20,14 +20,14 @@ pub(crate) struct Table {
 }
 
 impl Model for Table {
-    ghost use Rattle.std.specs.Prelude.{List, ◌≤◌, vec_len, vec_capacity};
+    ghost use Rattle.std.specs.Prelude.{List, ◌≡◌, ◌≤◌, vec_len, vec_capacity};
     ghost use Rattle.terminal.specs.declared.call.Call.{Call};
 
     ghost Value = { List Call };
 
     ghost view = { λ t. t.calls.items };
 
-    ghost invariant = { λ t. (vec_len t.calls ≤ 8) × (8 ≤ vec_capacity t.calls) };
+    ghost invariant = { λ t. (vec_len t.calls ≤ 8) × (vec_capacity t.calls ≡ 8) };
 }
 
 impl Table {

@@ -2,11 +2,11 @@
 use Rattle.std.proofs.Common.{◌≡◌, ℕ, zero, suc, ◌+◌, ◌*◌, ◌/◌, ◌%◌, ◌<◌, ◌≤◌, cond, ◌||◌, eqb, ltb, List, [], ◌∷◌, ◌++◌, length, get_or, take, drop, is_some, Some, None, Ok, Err, Option, Result, unwrap_or, sym, refl, ap, ◌∙◌, append_assoc, append-nil, arith}
 use Rattle.std.specs.Simd.{first_chunks}
 use Rattle.std.proofs.lemmas.List.{take_all, drop_more, drop_all, length_push}
-use Rattle.std.proofs.lemmas.Bool.{cond-true, eqb-false, ltb-false, or_parts}
+use Rattle.std.proofs.lemmas.Bool.{cond-true, cond_both, eqb-false, ltb-false, or_parts}
 use Rattle.std.proofs.lemmas.Bool.Decides.{nat_tests}
 use Rattle.text.specs.declared.fault.Fault.{Fault}
 use Rattle.text.specs.Fault.{in_line, after}
-use Rattle.text.specs.Hex.{digit_of}
+use Rattle.text.specs.Hex.{digit, digit_of}
 use Rattle.text.proofs.Checks.{passed}
 use Rattle.text.specs.Text.{no_digit, bytes, all_digits, checks_size, reads_text, digit_or, byte_at}
 
@@ -110,3 +110,7 @@ pub reading_all : (line : List ℕ) (i : ℕ) (bs : List ℕ) → length line �
 reading_all line i bs h r =
     let none = drop_all (2 * i) line h in
     (sym r.clean ∙ ap (no_digit (2 * i)) none, sym (append-nil bs) ∙ ap (λ l. bs ++ bytes l) (sym none) ∙ r.so_far)
+
+-- a digit is ASCII
+pub digit_ascii : (v : ℕ) → v < 16 → digit v < 128
+digit_ascii v h = cond_both (ltb v 10) (48 + v) (55 + v) (λ d. d < 128) (λ e. omega arith) (λ e. omega arith)

@@ -29,16 +29,24 @@ impl<R: Register, U: Link, D: Link> Pair<R, U, D> {
         }
     }
 
-    // Notifies a user: the pair's over the pair's own link, any other over the link handed in; fault as at the switch.
-    pub fn notify<E: Link>(&mut self, user: User, down: &mut E) -> Result<Notified, Fault>
+    // Notifying by whose link is used, apart from what it is to a run: a wrong link is refused here, and not for the type of a proof's term.
+    fn plain_notify<E: Link>(&mut self, user: User, down: &mut E) -> Result<Notified, Fault>
         ensures outcome { Notifies D.Link.sends E.Link.sends user self.old self.new down.old down.new result }
         ensures same { SamePair self.old self.new }
-        ensures law { Lawful R.Register.limit U.Link.waits D.Link.waits self.old (event_notified user result) self.new }
     {
         if user == self.user {
             self.switch.notify(user, &mut self.down)
         } else {
             self.switch.notify(user, down)
         }
+    }
+
+    // Notifies a user: the pair's over the pair's own link, any other over the link handed in; fault as at the switch.
+    pub fn notify<E: Link>(&mut self, user: User, down: &mut E) -> Result<Notified, Fault>
+        ensures outcome { Notifies D.Link.sends E.Link.sends user self.old self.new down.old down.new result }
+        ensures same { SamePair self.old self.new }
+        ensures law { Lawful R.Register.limit U.Link.waits D.Link.waits self.old (event_notified user result) self.new }
+    {
+        self.plain_notify(user, down)
     }
 }

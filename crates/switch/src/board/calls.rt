@@ -33,10 +33,8 @@ impl Board {
     pub(super) fn record_of(&self, call: CallId) -> Option<Record>
         ensures { result ≡ find call.0 self.now.records.items }
     {
-        self.records
-            .iter()
-            .find(|record| record.id == call)
-            .copied()
+        let i = self.record_place(call)?;
+        Some(self.records[i])
     }
 
     pub(super) fn standing(&self, user: User, call: CallId) -> Standing

@@ -24,10 +24,8 @@ impl Board {
     fn session_of(&self, user: User) -> Option<Session>
         ensures { result ≡ session user.0 self.now.sessions.items }
     {
-        self.sessions
-            .iter()
-            .find(|session| session.user == user)
-            .copied()
+        let i = self.session_place(user)?;
+        Some(self.sessions[i])
     }
 
     fn check_open(&self, user: User) -> Result<(), Fault>

@@ -36,6 +36,10 @@ impl<const N: usize> Buffer<N> {
     pub fn push(&mut self, byte: u8)
         ensures { held self.new ≡ take N (held self.old ++ byte ∷ []) }
     {
-        self.append(&[byte]);
+        // By itself and not by `append`, whose copy costs more than the byte.
+        if self.len < N {
+            self.bytes[self.len] = byte;
+            self.len += 1;
+        }
     }
 }

@@ -2,13 +2,13 @@ use Rattle.std.proofs.Common.{sym, subst, arith, length-take, length-take-le}
 use Rattle.std.proofs.lemmas.List.{take_more_set}
 use Rattle.links.specs.Queue.{Left}
 use Rattle.links.proofs.Queues.{left_then, left_used}
-use Rattle.links.proofs.Rings.{counted_fits}
+use Rattle.links.proofs.Rings.{counted_waits}
 use Rattle.links.proofs.ring.InRingPacking.get.Goals as goal
 
 pub pop-requires-in-loop-slot : goal.pop-requires-in-loop-slot
 pop-requires-in-loop-slot c =
     let at = c.loop-slot in
-    let fits = counted_fits c.args.queue.now c.pop.new.self c.pop.result c.requires.begins c.pop.ensures in
+    let fits = counted_waits c.args.queue.now c.pop.new.self c.pop.result c.requires.begins c.pop.ensures in
     let used = left_used at.invariant in
     omega (arith, length-take-le at.slot-index at.slot-items (omega arith), length-take c.from-n.result c.args.out.now)
 

@@ -1,18 +1,15 @@
--- The first record of the call, by the clauses of both searches.
-use Rattle.std.proofs.Common.{eqb, cond, vec_items, Some, refl, ◌∙◌, rules, tests}
-use Rattle.std.proofs.lemmas.Iterator.{YieldsList-from_slice}
-use Rattle.std.proofs.lemmas.Iterator.Search.{find_from_yields_List}
-use Rattle.std.proofs.lemmas.List.Recursion.{same_from_clauses}
-use Rattle.std.specs.List as list
-use Rattle.records.specs.Changes.{find}
-use Rattle.records.specs.declared.legs.Record.{Record}
+-- The record at the place is the one found.
+use Rattle.std.proofs.Common.{vec_items, sym, ◌∙◌}
+use Rattle.records.proofs.Tables.{found, find_none, placed_none, placed_some}
 use Rattle.switch.proofs.board.Board.record_of.Goals as goal
 
-pub returns : goal.returns
-unfolding find
-returns c =
-    let call = c.args.call.0 in
+pub returns-in_err-i : goal.returns-in_err-i
+returns-in_err-i c =
     let rs = vec_items c.args.self.now.records in
-    let found = find_from_yields_List (λ (r : Record). eqb r.id.0 call) _ _ c.find.result c.find.ensures.ran (YieldsList-from_slice rs cc) (λ x b q k. search (rules, tests)) in
-    let same = same_from_clauses (list.find (λ (r : Record). eqb r.id.0 call)) (find call) (λ r o. cond (eqb r.id.0 call) (Some r) o) refl (λ _ _. refl) (λ _ _. refl) rs in
-    c.copied.ensures ∙ found ∙ same
+    c.from_residual.ensures ∙ sym (find_none c.args.call.0 rs (placed_none _ rs (sym c.record_place.ensures ∙ c.in_err-i.was)))
+
+pub returns : goal.returns
+returns c =
+    let rs = vec_items c.args.self.now.records in
+    let p = placed_some c.args.call.0 c.in_ok-i.i rs (sym c.record_place.ensures ∙ c.in_ok-i.was) in
+    sym (found c.args.call.0 c.in_ok-i.i rs c.index.result.now p.0 p.1 c.index.ensures)

@@ -1,18 +1,15 @@
--- The first session of the user, by the clauses of both searches.
-use Rattle.std.proofs.Common.{eqb, cond, vec_items, Some, refl, ◌∙◌, rules, tests}
-use Rattle.std.proofs.lemmas.Iterator.{YieldsList-from_slice}
-use Rattle.std.proofs.lemmas.Iterator.Search.{find_from_yields_List}
-use Rattle.std.proofs.lemmas.List.Recursion.{same_from_clauses}
-use Rattle.std.specs.List as list
-use Rattle.switch.specs.Tables.{session}
-use Rattle.switch.specs.declared.session.Session.{Session}
+-- The session at the place is the one found.
+use Rattle.std.proofs.Common.{vec_items, sym, ◌∙◌}
+use Rattle.switch.proofs.Sessions.{placed_none, placed_some, session_found, session_none}
 use Rattle.switch.proofs.board.Board.session_of.Goals as goal
 
-pub returns : goal.returns
-unfolding session
-returns c =
-    let user = c.args.user.0 in
+pub returns-in_err-i : goal.returns-in_err-i
+returns-in_err-i c =
     let ss = vec_items c.args.self.now.sessions in
-    let found = find_from_yields_List (λ (s : Session). eqb s.user.0 user) _ _ c.find.result c.find.ensures.ran (YieldsList-from_slice ss cc) (λ x b q k. search (rules, tests)) in
-    let same = same_from_clauses (list.find (λ (s : Session). eqb s.user.0 user)) (session user) (λ s o. cond (eqb s.user.0 user) (Some s) o) refl (λ _ _. refl) (λ _ _. refl) ss in
-    c.copied.ensures ∙ found ∙ same
+    c.from_residual.ensures ∙ sym (session_none c.args.user.0 ss (placed_none _ ss (sym c.session_place.ensures ∙ c.in_err-i.was)))
+
+pub returns : goal.returns
+returns c =
+    let ss = vec_items c.args.self.now.sessions in
+    let p = placed_some c.args.user.0 c.in_ok-i.i ss (sym (sym c.session_place.ensures ∙ c.in_ok-i.was)) in
+    sym (session_found c.args.user.0 c.in_ok-i.i ss c.index.result.now p.0 p.1 c.index.ensures)
